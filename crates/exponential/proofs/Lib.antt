@@ -1,0 +1,7 @@
+pub mod Sums
+pub mod Terms
+pub mod SeriesLaws
+pub mod Weighted
+pub mod Joins
+pub mod TableLaws
+pub mod LowerLaws
