@@ -1,0 +1,10 @@
+pub mod Rounding
+pub mod Geometry
+pub mod Argument
+pub mod FillingLaws
+pub mod Growth
+pub mod WallLoadRounding
+pub mod WallLoadLaws
+pub mod PreparedNumbers
+pub mod Ready
+pub mod Worked

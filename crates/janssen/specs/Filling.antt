@@ -1,0 +1,73 @@
+-- The filling pressures by Janssen's formula. Document 01, "Filling"; source 001, clauses 5.2.1 and 7.3.
+use Prim.Native.Nat.{ℕ, _+_, _*_}
+use Rattle.fraction.specs.Fraction.{Fraction, _⊘_, whole, _⊕_, _⊗_, _÷_}
+use Rattle.janssen.specs.declared.Section.{Section}
+use Rattle.janssen.specs.declared.Product.{Product}
+use Rattle.janssen.specs.Section.{metres, R}
+
+-- the three filling pressures
+pub data Kind : Type 0 where
+  -- p_hf
+  horizontal : Kind
+  -- p_vf
+  vertical : Kind
+  -- p_wf
+  wall-friction : Kind
+
+-- what Ks and μ are multiplied by
+pub record Factors : Type 0 where
+  pub Ks-times : Fraction
+  pub μ-times : Fraction
+
+-- clause 7.3: 1.15 upper, 0.9 lower
+abbrev pub upper-factor : Fraction
+upper-factor = 115 ⊘ 100
+
+abbrev pub lower-factor : Fraction
+lower-factor = 90 ⊘ 100
+
+abbrev pub factors : Kind → Factors
+factors horizontal = record { Ks-times = upper-factor; μ-times = lower-factor }
+factors vertical = record { Ks-times = lower-factor; μ-times = lower-factor }
+factors wall-friction = record { Ks-times = upper-factor; μ-times = upper-factor }
+
+-- the row of P_w
+abbrev pub wall-load-factors : Factors
+wall-load-factors = record { Ks-times = upper-factor; μ-times = upper-factor }
+
+-- hundredths are plain ratios
+abbrev pub hundredths : ℕ → Fraction
+hundredths n = n ⊘ 100
+
+-- Ks and μ, factored as in the row
+unfoldable pub Ks : Factors → Product → Fraction
+Ks f p = f .Ks-times ⊗ hundredths (p .ratio)
+
+unfoldable pub μ : Factors → Product → Fraction
+μ f p = f .μ-times ⊗ hundredths (p .friction)
+
+-- z0 = R / (Ks·μ), m (5.6)
+unfoldable pub z0 : Factors → Section → Product → Fraction
+z0 f s p = R s ÷ (Ks f p ⊗ μ f p)
+
+-- q = z / z0 (5.5)
+unfoldable pub q : Factors → Section → Product → ℕ → Fraction
+q f s p z = metres z ÷ z0 f s p
+
+-- γR, Pa
+unfoldable pub γR : Section → Product → Fraction
+γR s p = whole (p .weight) ⊗ R s
+
+-- P, the factor before the bracket, Pa: γR/μ (5.3), γR/(μ·Ks) (5.4), γR (5.2)
+unfoldable pub P : Kind → Section → Product → Fraction
+P horizontal s p = γR s p ÷ μ (factors horizontal) p
+P vertical s p = γR s p ÷ (μ (factors vertical) p ⊗ Ks (factors vertical) p)
+P wall-friction s p = γR s p
+
+-- D = γR·z0, N/m
+unfoldable pub D : Section → Product → Fraction
+D s p = γR s p ⊗ z0 wall-load-factors s p
+
+-- N = γR·z, N/m
+unfoldable pub N : Section → Product → ℕ → Fraction
+N s p z = γR s p ⊗ metres z
