@@ -1,11 +1,10 @@
 -- From a bound at x/b to one at (x + y)/b: what one step along the exponential costs, given a bound on S_n at y/b. The table's
 -- neighbours and the step from an entry to a point between two entries are both of this kind.
 -- Assumes nothing.
-use mathlib.Core.Path.{_≡_}
 use Prim.Native.Nat.{ℕ, _+_, _*_, _^_, _≤_, _<_}
-use native.Mathlib.Nat.{mul-pos, mul-le-mul-left, mul-le-mul-right, mul-lt-mul-of-pos-right, le-of-mul-le-mul-right, lt-of-mul-lt-mul-right, le-trans, lt-of-lt-of-le}
+use native.Mathlib.Nat.{mul-pos, mul-le-mul-left, mul-le-mul-right, mul-lt-mul-of-pos-right, le-of-mul-le-mul-right, lt-of-mul-lt-mul-right}
 use native.Mathlib.Omega.{arith}
-use Rattle.fraction.specs.Fraction.{Fraction, _⊘_, whole, _⊗_, _⪯_, _≺_}
+use Rattle.fraction.specs.Fraction.{Fraction, _⊘_, whole, _⊗_, _⪯_}
 use Rattle.exponential.specs.Series.{S, Below, Above}
 use Rattle.exponential.proofs.Terms.{S-positive}
 use Rattle.exponential.proofs.SeriesLaws.{S-split, S-join}

@@ -4,24 +4,23 @@
 -- The denominator is 2^33·(4 + 3y + y² + y³/6) with two terms rounded up, y = j/2^33 < 1/64: at least (4 - y)·S_n(y) for every n, and
 -- at most 3 above it at n = 4.
 -- Assumes nothing.
-use mathlib.Core.Path.{_≡_, refl, ap, sym, subst}
-use Prim.Native.Nat.{ℕ, zero, suc, _+_, _-_, _*_, _/_, _%_, _^_, max, _≤_, _<_}
-use native.Mathlib.Nat.{mul-pos, mul-le-mul, mul-le-mul-left, mul-le-mul-right, le-refl, le-trans, le-antisymm, div-add-mod', div-mul-le-self, lt-div-mul-add, mod-lt, le-div-iff-mul-le, le-max-left, le-max-right, max-le, max-eq-left, max-eq-right, le-of-mul-le-mul-right}
+use mathlib.Core.Path.{_≡_, refl, ap}
+use Prim.Native.Nat.{ℕ, _+_, _-_, _*_, _/_, _%_, _^_, max, _≤_, _<_}
+use native.Mathlib.Nat.{mul-pos, mul-le-mul, mul-le-mul-left, mul-le-mul-right, le-refl, le-trans, div-mul-le-self, lt-div-mul-add, le-div-iff-mul-le, le-max-left, le-max-right, max-le, max-eq-left, max-eq-right, le-of-mul-le-mul-right}
 use native.Mathlib.Numerals.{add-one}
 use native.Mathlib.Decide.{decLe}
 use native.Mathlib.Omega.{arith}
-use Rattle.fraction.specs.Fraction.{Fraction, up, _⊘_, whole, _⊗_, _⪯_, _≺_}
+use Rattle.fraction.specs.Fraction.{Fraction, up, _⊘_, whole, _⊗_, _⪯_}
 use Rattle.fraction.proofs.Order.{compare, ⪯-trans, ≺-⪯-trans, ⊗-mono, ⪯-refl}
 use Rattle.fraction.proofs.Up.{up-ge, up-lt, up-mono}
 use Rattle.exponential.specs.Series.{S, Below, Reaches, Above}
-use Rattle.exponential.specs.Table.{Enclosed, table}
+use Rattle.exponential.specs.Table.{table}
 use Rattle.exponential.specs.Lower.{denominator, between, entry, lower}
 use Rattle.exponential.proofs.Terms.{terms, terms-are, S-positive}
-use Rattle.exponential.proofs.Sums.{psum}
 use Rattle.exponential.proofs.Weighted.{wsum, weighted-bound, weighted-equal, sum-at-most, sum-at-least}
 use Rattle.exponential.proofs.SeriesLaws.{S-one, S-mono, S-split}
 use Rattle.exponential.proofs.Joins.{below-join, above-join}
-use Rattle.exponential.proofs.TableLaws.{enclosed, entry-falls, entry-falls-by, entry-le, entry-zero}
+use Rattle.exponential.proofs.TableLaws.{enclosed, entry-falls, entry-falls-by, entry-le}
 
 module _ (j : ℕ) where
   second : ℕ

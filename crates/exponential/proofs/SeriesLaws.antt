@@ -1,15 +1,15 @@
 -- The laws of S_n: at least 1, rising with n and with q, and S_n(x + y) ≤ S_n(x)·S_n(y), S_n(x)·S_m(y) ≤ S_(n+m)(x + y).
 -- Each is read off the terms as whole numbers (`Terms`), whose sums are S_n times the first term.
 -- Assumes nothing.
-use mathlib.Core.Path.{_≡_, refl, ap, ap₂, sym, _∙_}
-use Prim.Native.Nat.{ℕ, zero, suc, _+_, _-_, _*_, _^_, _≤_, _<_}
-use native.Mathlib.Nat.{pow-zero, pow-suc, mul-pos, mul-le-mul, mul-le-mul-left, mul-le-mul-right, le-of-mul-le-mul-left, pow-le-pow-left, zero-add, suc-add}
+use mathlib.Core.Path.{_≡_, ap, ap₂}
+use Prim.Native.Nat.{ℕ, zero, suc, _+_, _*_, _^_, _<_}
+use native.Mathlib.Nat.{pow-zero, pow-suc, mul-pos, mul-le-mul-right, le-of-mul-le-mul-left, pow-le-pow-left}
 use native.Mathlib.Omega.{arith}
-use Rattle.fraction.specs.Fraction.{Fraction, _⊘_, whole, _⊕_, _⊗_, _⪯_}
+use Rattle.fraction.specs.Fraction.{Fraction, _⊘_, whole, _⊗_, _⪯_}
 use Rattle.fraction.proofs.Order.{⊕-mono}
 use Rattle.exponential.specs.Series.{factorial, term, S}
-use Rattle.exponential.proofs.Sums.{psum, conv, psum-first, psum-rises, product-above, product-below}
-use Rattle.exponential.proofs.Terms.{Terms, terms, terms-are, terms-positive, conv-terms, S-positive, term-positive, sum-of}
+use Rattle.exponential.proofs.Sums.{conv, psum-first, psum-rises, product-above, product-below}
+use Rattle.exponential.proofs.Terms.{terms, terms-are, terms-positive, conv-terms, S-positive, term-positive, sum-of}
 
 -- S_n(x + y) ≤ S_n(x)·S_n(y)
 pub S-split : (n x y b : ℕ) → 0 < b → S n ((x + y) ⊘ b) ⪯ S n (x ⊘ b) ⊗ S n (y ⊘ b)

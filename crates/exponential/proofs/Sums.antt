@@ -2,7 +2,7 @@
 -- need: the sums of a Cauchy product lie between products of sums (`product-above`, `product-below`), and its derivative is
 -- Leibniz's. No division, no binomials.
 -- Assumes nothing.
-use mathlib.Core.Path.{_≡_, refl, ap, sym}
+use mathlib.Core.Path.{_≡_, refl, ap}
 use Prim.Native.Nat.{ℕ, zero, suc, _+_, _-_, _*_, _≤_}
 use native.Mathlib.Nat.{mul-le-mul-left, zero-add, suc-add, sub-add-cancel}
 use native.Mathlib.Omega.{arith}

@@ -1,17 +1,17 @@
 -- The table's rule, proved once: entry 0 is 2^40, and one computed test over neighbours carries the rule from each entry to the
 -- next. 679526571/668991488 is at least every S_n(1/64); 130878095681/128849018880 is S_5(1/64).
 -- Assumes nothing.
-use mathlib.Core.Path.{_≡_, refl, ap, subst, sym}
+use mathlib.Core.Path.{_≡_, refl, ap}
 use mathlib.Core.Bool.{Bool, true, false}
 use mathlib.Core.List.{List, [], _∷_}
 use Prim.Native.Nat.{ℕ, zero, suc, _+_, _*_, _^_, _≤_, _<_}
-use native.Mathlib.Nat.{add-zero, add-suc, suc-add, zero-add, le-trans, le-refl, not-suc-le-zero, le-of-suc-le-suc, le-of-mul-le-mul-right}
+use native.Mathlib.Nat.{add-zero, add-suc, zero-add, le-trans, le-refl, not-suc-le-zero, le-of-suc-le-suc}
 use native.Mathlib.Numerals.{add-one}
 use native.Mathlib.Omega.{arith}
 use lib.Dec.{T, leb, leb→le, lit<, lit≤}
 use lib.ListN.{length, getD}
 use Rattle.fraction.specs.Fraction.{_⊘_, whole, _⊗_, _⪯_}
-use Rattle.exponential.specs.Series.{factorial, term, S, Below, Above}
+use Rattle.exponential.specs.Series.{factorial, term, S}
 use Rattle.exponential.specs.Table.{table, Enclosed}
 use Rattle.exponential.specs.Lower.{entry}
 use Rattle.exponential.proofs.Terms.{terms, terms-are}

@@ -2,7 +2,7 @@
 -- is u 0 times q^j / j!, and its sums are u 0 times S_n. Such a sequence exists for every M, a and b, and the Cauchy product of
 -- those at x / b and y / b is the one at (x + y) / b.
 -- Assumes nothing.
-use mathlib.Core.Path.{_≡_, refl, ap, sym, _∙_}
+use mathlib.Core.Path.{_≡_, ap}
 use Prim.Native.Nat.{ℕ, zero, suc, _+_, _-_, _*_, _^_, _≤_, _<_}
 use native.Mathlib.Nat.{pow-zero, pow-suc, mul-pos, one-le-pow}
 use native.Mathlib.Omega.{arith}

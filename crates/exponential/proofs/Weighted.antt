@@ -1,9 +1,9 @@
 -- A bound on every S_n at once: (m - q)·S_n(q) ≤ A_m(q), the sum of (m - j)·q^j/j! for j below m, with equality but for one term
 -- at n = m. In whole numbers, over the terms u of the series at a / b, with c for m·b - a.
 -- Assumes nothing.
-use mathlib.Core.Path.{_≡_, refl, ap, sym, _∙_}
+use mathlib.Core.Path.{_≡_, ap}
 use Prim.Native.Nat.{ℕ, zero, suc, _+_, _-_, _*_, _≤_, _<_}
-use native.Mathlib.Nat.{mul-pos, mul-le-mul-left, mul-le-mul-right, le-of-mul-le-mul-left, add-suc, add-zero}
+use native.Mathlib.Nat.{mul-le-mul-left, mul-le-mul-right, le-of-mul-le-mul-left, add-suc, add-zero}
 use native.Mathlib.Omega.{arith}
 use Rattle.fraction.specs.Fraction.{_⊘_, whole, _⊗_, _⪯_}
 use Rattle.exponential.specs.Series.{S}

@@ -1,5 +1,5 @@
 -- The lower bound of 2^40·e^(-q) at q = Q/2^33 that the program uses, as the program computes it. What holds of it is proved in
--- `proofs/LowerLaws.antt`: it lies below, it lies less than 353 below, it never rises with Q, and it is 2^40 at Q = 0.
+-- `proofs/LowerLaws.antt`: it lies below, it lies less than 354 below, it never rises with Q, and it is 2^40 at Q = 0.
 use Prim.Native.Nat.{ℕ, _+_, _-_, _*_, _/_, _%_, _^_, max}
 use lib.ListN.{getD}
 use Rattle.fraction.specs.Fraction.{up, _⊘_}

@@ -1,5 +1,5 @@
 -- The exponential series, and what it means for a whole number to lie below or above 2^40·e^(-q). Document 01, "Filling".
-use Prim.Native.Nat.{ℕ, zero, suc, _+_, _*_, _^_}
+use Prim.Native.Nat.{ℕ, zero, suc, _*_, _^_}
 use Rattle.fraction.specs.Fraction.{Fraction, _⊘_, whole, _⊕_, _⊗_, _⪯_, _≺_}
 
 -- n!

@@ -1,12 +1,12 @@
 -- Quotients from whole part and rest: with whole·d + rest = n and rest < d, n/d rounded down is whole, and rounded up it is whole or
 -- one more. A product that does not fit is divided digit by digit: the rest of the high digit goes into the low one.
-use Prim.Native.Nat.{ℕ, zero, suc, _+_, _-_, _*_, _/_, _%_, _^_, _≤_, _<_}
+use Prim.Native.Nat.{ℕ, _+_, _*_, _/_, _%_, _^_, _≤_, _<_}
 use mathlib.Core.Path.{_≡_, sym, _∙_, ap}
 use native.Mathlib.Omega.{arith}
-use native.Mathlib.Nat.{div-add-mod', mod-lt, mul-le-mul, mul-le-mul-left, mul-le-mul-right, le-mul-of-pos-right, lt-of-mul-lt-mul-right, le-of-mul-le-mul-right, mul-add-div-right, div-le-of-le-mul, pow-le-pow-right, pow-suc, le-of-lt}
+use native.Mathlib.Nat.{div-add-mod', mul-le-mul, mul-le-mul-left, mul-le-mul-right, le-mul-of-pos-right, le-of-mul-le-mul-right, mul-add-div-right, div-le-of-le-mul, pow-le-pow-right, pow-suc, le-of-lt}
 use lib.Arith.{digits-div}
 use Rattle.fraction.specs.Fraction.{_⊘_, up}
-use Rattle.fraction.proofs.Up.{up-unique, up-whole, up-nest, up-le}
+use Rattle.fraction.proofs.Up.{up-unique, up-whole, up-nest}
 
 module _ (n d whole rest : ℕ) (split : whole * d + rest ≡ n) (small : rest < d) where
   pub down-of : n / d ≡ whole

@@ -3,8 +3,8 @@
 use Prim.Native.Nat.{ℕ, zero, suc, _+_, _*_, _≤_, _<_}
 use mathlib.Core.Path.{_≡_}
 use native.Mathlib.Omega.{arith}
-use native.Mathlib.Nat.{mul-le-mul-left, mul-le-mul-right, mul-lt-mul-of-pos-right, mul-le-mul, mul-pos, le-of-mul-le-mul-right, lt-of-mul-lt-mul-right, zero-mul, mul-comm, le-of-lt, le-of-eq}
-use Rattle.fraction.specs.Fraction.{Fraction, _⊘_, whole, _⊕_, _⊗_, _÷_, _⪯_, _≺_}
+use native.Mathlib.Nat.{mul-le-mul-right, mul-lt-mul-of-pos-right, mul-le-mul, mul-pos, le-of-mul-le-mul-right, lt-of-mul-lt-mul-right, zero-mul, mul-comm, le-of-lt}
+use Rattle.fraction.specs.Fraction.{Fraction, _⊘_, _⊕_, _⊗_, _⪯_, _≺_}
 
 -- the factors of a positive product are positive
 pub pos-left : (m n : ℕ) → 0 < m * n → 0 < m

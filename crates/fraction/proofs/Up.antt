@@ -1,9 +1,9 @@
 -- Rounding up: up (a/b) is the one whole number n with a ≤ n·b < a + b. The division's own law gives both sides for b positive;
 -- the other laws follow from the two.
-use Prim.Native.Nat.{ℕ, zero, suc, _+_, _-_, _*_, _/_, _%_, _≤_, _<_}
+use Prim.Native.Nat.{ℕ, suc, _+_, _-_, _*_, _≤_, _<_}
 use mathlib.Core.Path.{_≡_}
 use native.Mathlib.Omega.{arith}
-use native.Mathlib.Nat.{div-add-mod', mod-lt, mul-le-mul-right, le-of-mul-le-mul-right, lt-of-mul-lt-mul-right, le-antisymm, mul-pos}
+use native.Mathlib.Nat.{div-add-mod', mod-lt, mul-le-mul-right, lt-of-mul-lt-mul-right, le-antisymm, mul-pos}
 use Rattle.fraction.specs.Fraction.{Fraction, _⊘_, whole, _⪯_, up}
 use Rattle.fraction.proofs.Order.{⪯-trans}
 

@@ -1,10 +1,9 @@
 -- The argument Q of the table's function: with q = a/b for each mm, step = ⌈q·2^55⌉ and Q = ⌈z·step/2^22⌉, Q/2^33 is at or above z·q,
 -- and less than 33/32·2^-33 above it for z to 2^17. So it stays under 53 where z·q is at most 52.9. It never falls with z.
-use Prim.Native.Nat.{ℕ, _+_, _-_, _*_, _^_, _≤_, _<_}
-use mathlib.Core.Path.{_≡_}
+use Prim.Native.Nat.{ℕ, _+_, _*_, _^_, _≤_, _<_}
 use native.Mathlib.Omega.{arith}
 use native.Mathlib.Nat.{mul-le-mul-left, mul-le-mul-right, mul-lt-mul-of-pos-right, lt-of-mul-lt-mul-right}
-use Rattle.fraction.specs.Fraction.{Fraction, _⊘_, up}
+use Rattle.fraction.specs.Fraction.{_⊘_, up}
 use Rattle.fraction.proofs.Up.{up-ge, up-lt, up-le}
 
 module _ (a b z step : ℕ) (hb : 0 < b) where

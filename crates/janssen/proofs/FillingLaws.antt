@@ -4,8 +4,8 @@
 use Prim.Native.Nat.{ℕ, _+_, _-_, _*_, _^_, _≤_, _<_}
 use mathlib.Core.Path.{_≡_, refl, ap, ap₂, _∙_}
 use native.Mathlib.Omega.{arith}
-use native.Mathlib.Nat.{mul-le-mul-left, mul-le-mul-right, le-of-mul-le-mul-right, mul-le-mul, sub-le-sub-left}
-use Rattle.fraction.specs.Fraction.{Fraction, _⊘_, whole, _⊕_, _⊗_, _⪯_, up}
+use native.Mathlib.Nat.{mul-le-mul-right, le-of-mul-le-mul-right, mul-le-mul, sub-le-sub-left}
+use Rattle.fraction.specs.Fraction.{Fraction, _⊘_, whole, _⪯_, up}
 use Rattle.fraction.proofs.Order.{compare, ⪯-refl, ⪯-trans, ⊕-mono, ⊗-mono}
 use Rattle.fraction.proofs.Up.{up-ge, up-lt, up-le, up-mono, up-zero}
 use Rattle.exponential.specs.Series.{S, Below, Reaches}

@@ -4,12 +4,10 @@ use Prim.Native.Nat.{ℕ, _+_, _-_, _*_, _^_, _≤_, _<_}
 use mathlib.Core.Path.{_≡_}
 use native.Mathlib.Omega.{arith}
 use native.Mathlib.Nat.{le-trans, mul-le-mul, mul-le-mul-left, mul-le-mul-right, mul-pos, min-le-left, min-le-right}
-use Rattle.fraction.specs.Fraction.{Fraction, _⊘_, whole, _⊕_, _⊗_, _÷_, _⪯_}
-use Rattle.fraction.proofs.Order.{same}
 use Rattle.janssen.specs.declared.Section.{Section}
 use Rattle.janssen.specs.declared.Product.{Product}
 use Rattle.janssen.specs.Section.{side-a, side-b, d-c, R}
-use Rattle.janssen.specs.Filling.{Kind, Factors, factors, wall-load-factors, Ks, μ, z0, q, γR, P}
+use Rattle.janssen.specs.Filling.{Kind, factors, wall-load-factors, Ks, μ, z0, q, γR, P}
 use Rattle.janssen.specs.Filling.Kind.{horizontal, vertical, wall-friction}
 use Rattle.janssen.specs.Range.{InRange, InDepth}
 

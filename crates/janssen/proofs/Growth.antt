@@ -1,11 +1,10 @@
 -- The series grows no faster than its own q-fold: S_n ≤ 1 + q·S_n, that is (1 - q)·S_n ≤ 1. Each term of S_(n+1) but the first is at
 -- most q times the term before it.
-use Prim.Native.Nat.{ℕ, zero, suc, _+_, _*_, _^_, _≤_, _<_}
-use mathlib.Core.Path.{_≡_}
+use Prim.Native.Nat.{ℕ, zero, suc, _*_, _^_, _<_}
 use native.Mathlib.Omega.{arith}
 use native.Mathlib.Nat.{pow-suc, pow-zero, mul-pos, mul-le-mul-left, le-add-right}
-use Rattle.fraction.specs.Fraction.{Fraction, _⊘_, whole, _⊕_, _⊗_, _⪯_}
-use Rattle.fraction.proofs.Order.{⪯-refl, ⪯-trans, ⊕-mono, ⊗-mono}
+use Rattle.fraction.specs.Fraction.{Fraction, whole, _⊕_, _⊗_, _⪯_}
+use Rattle.fraction.proofs.Order.{⪯-trans, ⊕-mono}
 use Rattle.exponential.specs.Series.{S, term, factorial}
 use Rattle.exponential.proofs.Terms.{S-positive, term-positive}
 

@@ -7,4 +7,3 @@ pub mod WallLoadRounding
 pub mod WallLoadLaws
 pub mod PreparedNumbers
 pub mod Ready
-pub mod Worked

@@ -1,9 +1,9 @@
 -- The numbers prepared once, from the fractions in whole numbers: equal fractions round to the same number, up or down.
-use Prim.Native.Nat.{ℕ, _+_, _-_, _*_, _/_, _^_, _≤_, _<_}
+use Prim.Native.Nat.{ℕ, _+_, _*_, _/_, _^_, _≤_, _<_}
 use mathlib.Core.Path.{_≡_, refl, sym, ap, _∙_}
 use native.Mathlib.Omega.{arith}
-use native.Mathlib.Nat.{mul-le-mul, mul-le-mul-left, mul-le-mul-right, mul-pos, le-antisymm, mul-div-mul-right, mul-comm}
-use Rattle.fraction.specs.Fraction.{Fraction, _⊘_, whole, _⊗_, up}
+use native.Mathlib.Nat.{mul-le-mul, le-antisymm, mul-div-mul-right, mul-comm}
+use Rattle.fraction.specs.Fraction.{_⊘_, up}
 use Rattle.fraction.proofs.Order.{same}
 use Rattle.fraction.proofs.Up.{up-mono}
 use Rattle.janssen.specs.declared.Section.{Section}

@@ -1,22 +1,21 @@
 -- What the prepared numbers and a depth in range give each call on the way to the filling loads: nothing overflows, and Q stays
 -- under 53·2^33.
-use Prim.Native.Nat.{ℕ, _+_, _-_, _*_, _/_, _^_, _≤_, _<_}
+use Prim.Native.Nat.{ℕ, _-_, _*_, _^_, _≤_, _<_}
 use mathlib.Core.Path.{_≡_, refl, sym, subst}
 use native.Mathlib.Omega.{arith}
-use native.Mathlib.Nat.{le-trans, le-of-lt, mul-le-mul, mul-le-mul-left, mul-le-mul-right, div-lt-iff-lt-mul}
+use native.Mathlib.Nat.{le-of-lt, mul-le-mul, div-lt-iff-lt-mul}
 use Rattle.fraction.specs.Fraction.{_⊘_, up}
 use Rattle.fraction.proofs.Up.{up-ge, up-le}
 use Rattle.janssen.specs.declared.Section.{Section}
 use Rattle.janssen.specs.declared.Product.{Product}
 use Rattle.janssen.specs.declared.Curve.{Curve}
 use Rattle.janssen.specs.declared.Prepared.{Prepared}
-use Rattle.janssen.specs.declared.FillingLoads.{FillingLoads}
 use Rattle.janssen.specs.Filling.{Kind, factors}
-use Rattle.janssen.specs.Filling.Kind.{horizontal, vertical, wall-friction}
+use Rattle.janssen.specs.Filling.Kind.{wall-friction}
 use Rattle.janssen.specs.Range.{InRange, InDepth}
 use Rattle.janssen.specs.Pressure.{step, limit, decay, pressure, filling, z0-scaled, loaded-depth, load, wall-load}
-use Rattle.janssen.specs.Prepare.{curve, prepared-for, filling-loads}
-use Rattle.janssen.proofs.Geometry.{q-top, q-bottom, q-top-pos, most, most-small, z0-small}
+use Rattle.janssen.specs.Prepare.{curve, prepared-for}
+use Rattle.janssen.proofs.Geometry.{q-top-pos, most-small, z0-small}
 use Rattle.janssen.proofs.FillingLaws.{Q-small, limit-most}
 use Rattle.janssen.proofs.PreparedNumbers.{z0-scaled-is}
 

@@ -5,9 +5,8 @@
 use Prim.Native.Nat.{ℕ, _+_, _-_, _*_, _^_, _≤_, _<_}
 use mathlib.Core.Path.{_≡_, ap}
 use native.Mathlib.Omega.{arith}
-use native.Mathlib.Nat.{mul-le-mul-left, mul-le-mul-right, mul-lt-mul-of-pos-right, mul-pos}
+use native.Mathlib.Nat.{mul-le-mul-left, mul-le-mul-right, mul-pos}
 use Rattle.fraction.specs.Fraction.{Fraction, _⊘_, whole, _⊕_, _⊗_, _⪯_, up}
-use Rattle.fraction.proofs.Order.{pos-left, pos-right}
 use Rattle.fraction.proofs.Up.{up-ge, up-lt}
 
 -- the same in whole numbers, for P = A/B

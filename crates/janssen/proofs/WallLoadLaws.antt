@@ -5,7 +5,7 @@ use Prim.Native.Nat.{ℕ, _+_, _-_, _*_, _/_, _^_, _≤_, _<_}
 use mathlib.Core.Path.{_≡_, refl, ap, _∙_}
 use native.Mathlib.Omega.{arith}
 use native.Mathlib.Decide.{decLe}
-use native.Mathlib.Nat.{mul-le-mul, mul-le-mul-left, mul-le-mul-right, mul-pos, div-mul-le-self, lt-div-mul-add, le-of-mul-le-mul-right}
+use native.Mathlib.Nat.{mul-le-mul, mul-le-mul-left, mul-pos, div-mul-le-self, lt-div-mul-add, le-of-mul-le-mul-right}
 use Rattle.fraction.specs.Fraction.{Fraction, _⊘_, whole, _⊕_, _⊗_, _⪯_, up}
 use Rattle.fraction.proofs.Up.{up-ge, up-lt, up-le, up-zero}
 use Rattle.exponential.specs.Series.{S, Reaches}
@@ -14,12 +14,12 @@ use Rattle.exponential.proofs.SeriesLaws.{S-one}
 use Rattle.janssen.specs.declared.Section.{Section}
 use Rattle.janssen.specs.declared.Product.{Product}
 use Rattle.janssen.specs.Section.{metres}
-use Rattle.janssen.specs.Filling.{Kind, factors, wall-load-factors, q, z0, P, γR, D, N}
+use Rattle.janssen.specs.Filling.{Kind, wall-load-factors, q, z0, P, γR, D, N}
 use Rattle.janssen.specs.Filling.Kind.{wall-friction}
 use Rattle.janssen.specs.Band.{WallLoadBand}
 use Rattle.janssen.specs.Range.{InRange, InDepth}
 use Rattle.janssen.specs.Pressure.{step, limit, decay, z0-scaled, loaded-depth, load, wall-load}
-use Rattle.janssen.proofs.Geometry.{q-pos, γR-pos, γR-most, z0-pos, z0-top-pos, D-most}
+use Rattle.janssen.proofs.Geometry.{q-pos, γR-pos, γR-most, z0-pos, D-most}
 use Rattle.janssen.proofs.Growth.{S-growth}
 use Rattle.janssen.proofs.FillingLaws.{decay-below, decay-reaches, decay-most, limit-most}
 use Rattle.janssen.proofs.WallLoadRounding.{load-above, load-close}

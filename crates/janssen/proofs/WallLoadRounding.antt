@@ -1,10 +1,10 @@
 -- Why the rounded P_w lies in its band, for any sum s/t of the series and any whole E that stands for 2^40·e^(-q). In whole numbers:
 -- γR = A/B in Pa, z0 = u/v in m, L = ⌈γR·2^11⌉, Z = ⌊z0·1000·2^11⌋, C stands for 2^40·(1 - e^(-q)) from below, X = ⌊Z·C/2^40⌋,
 -- G = z·2^11 - X, w = ⌈L·G/(2^22·1000)⌉. The comparisons of document 01 are multiplied by B·v·1000·t.
-use Prim.Native.Nat.{ℕ, _+_, _-_, _*_, _^_, _≤_, _<_}
+use Prim.Native.Nat.{ℕ, _+_, _*_, _^_, _≤_}
 use mathlib.Core.Path.{_≡_, ap}
 use native.Mathlib.Omega.{arith}
-use native.Mathlib.Nat.{mul-le-mul-left, mul-le-mul-right, mul-le-mul, mul-pos}
+use native.Mathlib.Nat.{mul-le-mul-left, mul-le-mul-right}
 
 module _ (A B u v L Z C X G w z s t : ℕ) where
   pub load-above : (Y : ℕ) → Y + C ≡ 2 ^ 40 → A * 2048 ≤ L * B → Z * v ≤ u * 2048000 → X * 2 ^ 40 ≤ Z * C → z * 2048 ≤ G + X →

@@ -2,7 +2,7 @@
 -- on the other side.
 use Prim.Native.Nat.{ℕ, _<_}
 use mathlib.Core.Path.{_≡_}
-use Rattle.fraction.specs.Fraction.{Fraction, _⊘_, whole, _⊕_, _⊗_, _⪯_}
+use Rattle.fraction.specs.Fraction.{Fraction, whole, _⊕_, _⊗_, _⪯_}
 use Rattle.exponential.specs.Series.{S}
 use Rattle.janssen.specs.declared.Section.{Section}
 use Rattle.janssen.specs.declared.Product.{Product}

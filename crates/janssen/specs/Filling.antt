@@ -1,6 +1,6 @@
 -- The filling pressures by Janssen's formula. Document 01, "Filling"; source 001, clauses 5.2.1 and 7.3.
-use Prim.Native.Nat.{ℕ, _+_, _*_}
-use Rattle.fraction.specs.Fraction.{Fraction, _⊘_, whole, _⊕_, _⊗_, _÷_}
+use Prim.Native.Nat.{ℕ}
+use Rattle.fraction.specs.Fraction.{Fraction, _⊘_, whole, _⊗_, _÷_}
 use Rattle.janssen.specs.declared.Section.{Section}
 use Rattle.janssen.specs.declared.Product.{Product}
 use Rattle.janssen.specs.Section.{metres, R}

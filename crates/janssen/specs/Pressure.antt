@@ -1,11 +1,11 @@
 -- The filling pressures and P_w as the program computes them, functions of section, product and depth alone. What holds of them is
 -- proved in `proofs/`: they lie inside their bands, and no pressure falls with depth.
-use Prim.Native.Nat.{ℕ, _+_, _-_, _*_, _/_, _^_}
-use Rattle.fraction.specs.Fraction.{Fraction, _⊘_, whole, _⊗_, up}
+use Prim.Native.Nat.{ℕ, _-_, _*_, _/_, _^_}
+use Rattle.fraction.specs.Fraction.{_⊘_, whole, _⊗_, up}
 use Rattle.exponential.specs.Lower.{lower}
 use Rattle.janssen.specs.declared.Section.{Section}
 use Rattle.janssen.specs.declared.Product.{Product}
-use Rattle.janssen.specs.Filling.{Kind, Factors, factors, wall-load-factors, z0, q, P, γR}
+use Rattle.janssen.specs.Filling.{Kind, Factors, factors, wall-load-factors, z0, q, P}
 use Rattle.janssen.specs.Filling.Kind.{wall-friction}
 
 -- q for each mm, in 2^-55, rounded up

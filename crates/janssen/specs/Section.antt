@@ -1,5 +1,5 @@
 -- The cross-section of the silo. Document 01, "Sheet".
-use Prim.Native.Nat.{ℕ, _+_, _*_, min}
+use Prim.Native.Nat.{ℕ, min}
 use Rattle.fraction.specs.Fraction.{Fraction, _⊘_, whole, _⊕_, _⊗_, _÷_}
 use Rattle.janssen.specs.declared.Section.{Section}
 use Rattle.janssen.specs.declared.Section.the-variants.{Circle, Rectangle}

@@ -83,7 +83,7 @@ pub fn side_b(section: Section) -> u64
 
 // d_c, mm.
 pub fn shorter_side(section: Section) -> u64
-    ensures { λ r. ⌜ r ≡ d-c section ⌝ }
+    ensures { λ r. ⌜ (r ≡ d-c section) × (r ≤ side-a section) ⌝ }
 {
     let a = side_a(section);
     let b = side_b(section);

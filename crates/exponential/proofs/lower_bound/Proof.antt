@@ -6,7 +6,7 @@ use mathlib.Core.List.{List}
 use Prim.Native.Nat.{ℕ, _+_, _-_, _*_, _/_, _%_, _^_, _≤_, _<_}
 use borrow.Author.Needs.{needs}
 use native.Mathlib.Omega.{arith}
-use native.Mathlib.Nat.{max-eq-left, max-eq-right, le-of-lt, le-trans, le-of-eq}
+use native.Mathlib.Nat.{max-eq-left, max-eq-right, le-trans, le-of-eq}
 use lib.ListN.{getD}
 use Rattle.exponential.specs.Table.{table}
 use Rattle.exponential.specs.Lower.{denominator, between, entry, lower}

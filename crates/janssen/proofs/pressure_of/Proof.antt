@@ -1,7 +1,6 @@
 -- `pressure_of` meets its contract: the pressure is at most 2^25.
 -- Assumes nothing.
 use borrow.Author.Needs.{needs}
-use Prim.Native.Nat.{_*_, _^_, _-_}
 use native.Mathlib.Omega.{arith}
 use Rattle.janssen.specs.Pressure.{pressure}
 use Rattle.janssen.proofs.Ready.{pressure-fits}

@@ -2,7 +2,6 @@
 -- Assumes nothing.
 use borrow.Author.Needs.{needs}
 use native.Mathlib.Omega.{arith}
-use native.Mathlib.Nat.{mul-le-mul}
 use Rattle.janssen.proofs.PreparedNumbers.{side-sizes, step-sizes, z0-least}
 use Rattle.janssen.proofs.z0_of.Statement.{statement}
 use Rattle.janssen.proofs.z0_of.Tie as tie

@@ -1,0 +1,147 @@
+// The values that the records hold, read in place; any slice of bytes has them.
+ghost use mathlib.Core.Path.{_≡_};
+ghost use Prim.Native.Nat.{_+_, _*_, _<_, _≤_};
+ghost use lib.ListN.{getD};
+ghost use Rattle.janssen.specs.Section.{side-a, side-b};
+ghost use Rattle.records.specs.Format.{payload, payload-length};
+ghost use Rattle.description.specs.Silo.{section-of, product-sent, factor-read, product-of, eccentricities-of, bottom-of, strake-count, depth-count, V-of, depths-of, wall-of};
+use crate::Bottom;
+use crate::Eccentricities;
+use crate::Wall;
+use janssen::Product;
+use janssen::Section;
+use records::bytes::four_bytes;
+use records::bytes::two_bytes;
+use records::layout::record_place;
+
+// Where the payload of record k begins.
+pub fn payload_place(sheet: &[u8], k: usize) -> usize
+    requires { ⌜ k < 6 ⌝ }
+    ensures { λ r. ⌜ (r ≡ payload (now (sheet .entry)) k) × (r < 500000) ⌝ }
+{
+    record_place(sheet, k) + 4
+}
+
+// The bytes in the payload of record k.
+pub fn payload_bytes(sheet: &[u8], k: usize) -> u64
+    requires { ⌜ k < 6 ⌝ }
+    ensures { λ r. ⌜ (r ≡ payload-length (now (sheet .entry)) k) × (r < 65536) ⌝ }
+{
+    two_bytes(sheet, record_place(sheet, k))
+}
+
+pub fn read_section(sheet: &[u8]) -> Section
+    ensures { λ r. ⌜ (r ≡ section-of (now (sheet .entry))) × (side-a r < 4294967296) × (side-b r < 4294967296) ⌝ }
+{
+    let at = payload_place(sheet, 0);
+    let a = four_bytes(sheet, at);
+    if two_bytes(sheet, 2) == 1 {
+        Section::Circle(a)
+    } else {
+        Section::Rectangle(a, four_bytes(sheet, at + 4))
+    }
+}
+
+pub fn read_product_sent(sheet: &[u8]) -> Product
+    ensures { λ r. ⌜ r ≡ product-sent (now (sheet .entry)) ⌝ }
+{
+    let at = payload_place(sheet, 1);
+    Product {
+        weight: four_bytes(sheet, at),
+        ratio: two_bytes(sheet, at + 4),
+        friction: two_bytes(sheet, at + 6),
+        factor: two_bytes(sheet, at + 8),
+    }
+}
+
+// A factor C0 of 0 is read as 135 hundredths.
+fn read_factor(sent: u64) -> u64
+    ensures { λ r. ⌜ r ≡ factor-read sent ⌝ }
+{
+    if sent == 0 { 135 } else { sent }
+}
+
+pub fn read_product(sheet: &[u8]) -> Product
+    ensures { λ r. ⌜ r ≡ product-of (now (sheet .entry)) ⌝ }
+{
+    let sent = read_product_sent(sheet);
+    Product {
+        weight: sent.weight,
+        ratio: sent.ratio,
+        friction: sent.friction,
+        factor: read_factor(sent.factor),
+    }
+}
+
+pub fn read_eccentricities(sheet: &[u8]) -> Eccentricities
+    ensures { λ r. ⌜ (r ≡ eccentricities-of (now (sheet .entry))) × (r .inlet < 4294967296) × (r .outlet < 4294967296) ⌝ }
+{
+    let at = payload_place(sheet, 2);
+    Eccentricities {
+        inlet: four_bytes(sheet, at),
+        outlet: four_bytes(sheet, at + 4),
+    }
+}
+
+pub fn read_bottom(sheet: &[u8]) -> Bottom
+    ensures { λ r. ⌜ (r ≡ bottom-of (now (sheet .entry))) × (r .height < 4294967296) × (r .run < 4294967296) ⌝ }
+{
+    let at = payload_place(sheet, 3);
+    Bottom {
+        height: four_bytes(sheet, at),
+        run: four_bytes(sheet, at + 4),
+    }
+}
+
+pub fn strakes(sheet: &[u8]) -> usize
+    ensures { λ r. ⌜ (r ≡ strake-count (now (sheet .entry))) × (r < 32768) ⌝ }
+{
+    payload_bytes(sheet, 4) as usize / 2
+}
+
+// The wall's height V, mm.
+pub fn wall_height(sheet: &[u8]) -> u64
+    ensures { λ r. ⌜ (r ≡ V-of (now (sheet .entry))) × (r < 4294967296) ⌝ }
+{
+    let count = strakes(sheet);
+    let mut at = payload_place(sheet, 4);
+    let mut height: u64 = 0;
+    let mut i: usize = 0;
+    while i < count {
+        height += two_bytes(sheet, at);
+        at += 2;
+        i += 1;
+    }
+    height
+}
+
+// The strake heights, in 24 places.
+pub fn read_wall(sheet: &[u8]) -> Wall
+    requires { ⌜ strake-count (now sheet) ≤ 24 ⌝ }
+    ensures { λ r. ⌜ r ≡ wall-of (now (sheet .entry)) ⌝ }
+{
+    let count = strakes(sheet);
+    let mut at = payload_place(sheet, 4);
+    let mut heights = [0u64; 24];
+    let mut i: usize = 0;
+    while i < count {
+        heights[i] = two_bytes(sheet, at);
+        at += 2;
+        i += 1;
+    }
+    Wall { heights, count }
+}
+
+pub fn depth_count(sheet: &[u8]) -> usize
+    ensures { λ r. ⌜ (r ≡ depth-count (now (sheet .entry))) × (r < 16384) ⌝ }
+{
+    payload_bytes(sheet, 5) as usize / 4
+}
+
+// The depth i, counted from 0, mm below the brim.
+pub fn depth(sheet: &[u8], i: usize) -> u64
+    requires { ⌜ (i < depth-count (now sheet)) × (i < 200) ⌝ }
+    ensures { λ r. ⌜ (r ≡ getD (depths-of (now (sheet .entry))) i 0) × (r < 4294967296) ⌝ }
+{
+    four_bytes(sheet, payload_place(sheet, 5) + 4 * i)
+}

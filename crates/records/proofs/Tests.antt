@@ -1,0 +1,53 @@
+-- Rules that hold, and tests that are true, taken apart and put together.
+use Prim.Native.Nat.{ℕ, zero, suc, _≤_}
+use mathlib.Core.Bool.{Bool, true, false}
+use mathlib.Core.Logic.{_⊎_, inl, inr}
+use mathlib.Core.Path.{_≡_, refl}
+use native.Mathlib.Omega.{arith}
+use borrow.Author.Tests.{leb-true, le-leb}
+use lib.Dec.{leb}
+use Rattle.records.specs.Rules.{both, either, within, must, orElse}
+
+pub absurd : {A : Type 0} → ⊥ → A
+absurd x = elim x [ ]
+
+pub false-true : false ≡ true → ⊥
+false-true h = let z : _≡_ {A = ℕ} 0 1 = cc in omega arith
+
+pub both-true : (a b : Bool) → both a b ≡ true → (a ≡ true) × (b ≡ true)
+both-true true b h = (refl, h)
+both-true false b h = absurd (false-true h)
+
+pub either-true : (a b : Bool) → either a b ≡ true → (a ≡ true) ⊎ (b ≡ true)
+either-true true b h = inl refl
+either-true false b h = inr h
+
+-- a test that holds by its second half
+pub either-right : (a b : Bool) → b ≡ true → either a b ≡ true
+either-right true b h = refl
+either-right false b h = h
+
+pub within-true : (low high x : ℕ) → within low high x ≡ true → (low ≤ x) × (x ≤ high)
+within-true low high x h =
+    let p = both-true (leb low x) (leb x high) h in
+    (leb-true low x (p .0), leb-true x high (p .1))
+
+pub true-within : (low high x : ℕ) → low ≤ x → x ≤ high → within low high x ≡ true
+true-within low high x l h = simp (le-leb low x l, le-leb x high h)
+
+-- a rule whose number is not 0 holds when its test is true
+pub must-true : (b : Bool) (n : ℕ) → must b (suc n) ≡ 0 → b ≡ true
+must-true true n h = refl
+must-true false n h = absurd (omega arith)
+
+-- no refusal among several: none of each
+pub orElse-0 : (a b : ℕ) → orElse a b ≡ 0 → (a ≡ 0) × (b ≡ 0)
+orElse-0 zero b h = (refl, h)
+orElse-0 (suc a) b h = omega arith
+
+pub orElse-skip : (a b : ℕ) → a ≡ 0 → orElse a b ≡ b
+orElse-skip a b h = rw h
+
+pub orElse-stop : (a b : ℕ) → (a ≡ 0 → ⊥) → orElse a b ≡ a
+orElse-stop zero b h = absurd (h refl)
+orElse-stop (suc a) b h = refl

@@ -1,0 +1,5 @@
+pub mod Answers
+pub mod Heights
+pub mod Layouts
+pub mod Acceptance
+pub mod Described

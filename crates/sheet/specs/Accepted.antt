@@ -1,0 +1,92 @@
+-- Acceptance in plain inequalities: what a sheet that is not refused has. Document 01, "Sheet" and "Who can be refused".
+use Prim.Native.Nat.{ℕ, suc, _+_, _*_, _≤_, _<_}
+use mathlib.Core.List.{List}
+use mathlib.Core.Logic.{_⊎_}
+use mathlib.Core.Path.{_≡_}
+use lib.ListN.{length, getD}
+use Rattle.janssen.specs.declared.Section.{Section}
+use Rattle.janssen.specs.declared.Product.{Product}
+use Rattle.janssen.specs.Section.{side-a, side-b, d-c}
+use Rattle.description.specs.declared.Eccentricities.{Eccentricities}
+use Rattle.description.specs.declared.Bottom.{Bottom}
+use Rattle.records.specs.Format.{kind, payload-length, place}
+use Rattle.description.specs.Silo.{section-of, product-sent, eccentricities-of, bottom-of, strakes-of, depths-of, strake-count, depth-count, V-of, h-of}
+
+-- six records, each with its payload inside the sheet, and nothing behind the last
+pub record Layout (s : List ℕ) : Type 0 where
+  -- 1
+  pub size : length s ≤ 1024
+  -- 2
+  pub present : (k : ℕ) → k < 6 → place s k + 4 + payload-length s k ≤ length s
+  -- 3
+  pub section-kind : (kind s 0 ≡ 1) ⊎ (kind s 0 ≡ 2)
+  pub other-kinds : (k : ℕ) → 0 < k → k < 6 → kind s k ≡ k + 2
+  -- 4
+  pub circle-length : kind s 0 ≡ 1 → payload-length s 0 ≡ 4
+  pub rectangle-length : kind s 0 ≡ 2 → payload-length s 0 ≡ 8
+  pub product-length : payload-length s 1 ≡ 10
+  pub filling-length : payload-length s 2 ≡ 8
+  pub bottom-length : payload-length s 3 ≡ 8
+  pub strakes-length : payload-length s 4 ≡ 2 * strake-count s
+  pub strakes-some : 1 ≤ strake-count s
+  pub strakes-few : strake-count s ≤ 24
+  pub depths-length : payload-length s 5 ≡ 4 * depth-count s
+  pub depths-some : 1 ≤ depth-count s
+  pub depths-few : depth-count s ≤ 200
+  -- 5
+  pub ends : place s 6 ≡ length s
+
+-- 9: flat, or a hopper
+pub record Hopper (dc : ℕ) (b : Bottom) : Type 0 where
+  pub run-some : 1 ≤ b .run
+  pub run-narrow : 2 * b .run < dc
+  pub height-most : b .height ≤ 25000
+  pub steep : 363971 * b .run ≤ 1000000 * b .height
+
+-- the values inside their ranges
+pub record Values (c : Section) (p : Product) (e : Eccentricities) (b : Bottom) : Type 0 where
+  -- 6
+  pub a-least : 500 ≤ side-a c
+  pub a-most : side-a c ≤ 50000
+  pub b-least : 500 ≤ side-b c
+  pub b-most : side-b c ≤ 50000
+  -- 7
+  pub weight-least : 1000 ≤ p .weight
+  pub weight-most : p .weight ≤ 30000
+  pub ratio-least : 20 ≤ p .ratio
+  pub ratio-most : p .ratio ≤ 100
+  pub friction-least : 10 ≤ p .friction
+  pub friction-most : p .friction ≤ 100
+  pub factor-range : (p .factor ≡ 0) ⊎ ((100 ≤ p .factor) × (p .factor ≤ 200))
+  -- 8
+  pub inlet-most : 4 * e .inlet ≤ d-c c
+  pub outlet-most : 4 * e .outlet ≤ d-c c
+  -- 9
+  pub bottom-shape : ((b .height ≡ 0) × (b .run ≡ 0)) ⊎ Hopper (d-c c) b
+
+pub record Accepted (s : List ℕ) : Type 0 where
+  -- 1 to 5
+  pub layout : Layout s
+  -- 6 to 9
+  pub values : Values (section-of s) (product-sent s) (eccentricities-of s) (bottom-of s)
+  -- 10
+  pub strakes-least : (i : ℕ) → i < strake-count s → 200 ≤ getD (strakes-of s) i 0
+  pub strakes-most : (i : ℕ) → i < strake-count s → getD (strakes-of s) i 0 ≤ 3000
+  -- 11
+  pub depths-most : (i : ℕ) → i < depth-count s → getD (depths-of s) i 0 ≤ V-of s
+  pub depths-rise : (i : ℕ) → suc i < depth-count s → getD (depths-of s) i 0 < getD (depths-of s) (suc i) 0
+  -- 12
+  pub slender : h-of s < 10 * d-c (section-of s)
+  -- 13
+  pub tall : 3 * d-c (section-of s) ≤ 2 * h-of s
+
+-- the product as it is read: C0 from 100 to 200
+pub record ProductRange (p : Product) : Type 0 where
+  pub weight-least : 1000 ≤ p .weight
+  pub weight-most : p .weight ≤ 30000
+  pub ratio-least : 20 ≤ p .ratio
+  pub ratio-most : p .ratio ≤ 100
+  pub friction-least : 10 ≤ p .friction
+  pub friction-most : p .friction ≤ 100
+  pub factor-least : 100 ≤ p .factor
+  pub factor-most : p .factor ≤ 200
