@@ -1,0 +1,2 @@
+pub mod LowerLaws
+pub mod Rounding

@@ -1,0 +1,82 @@
+-- Document 01, "Cases": those marked (m), as one statement. A circle of 5,000, γ 9,000, Ks 50, depths 0 and 5,000.
+use Prim.Native.Nat.{ℕ, _*_, _/_, _%_}
+use mathlib.Core.List.{List, [], _∷_, _++_}
+use mathlib.Core.Path.{_≡_}
+use lib.ListN.{length}
+use Rattle.janssen.specs.Section.{d-c}
+use Rattle.janssen.specs.declared.Section.the-variants.{Circle}
+use Rattle.janssen.specs.declared.Product.{Product}
+use Rattle.janssen.specs.Filling.{P}
+use Rattle.janssen.specs.Filling.Kind.{horizontal}
+use Rattle.records.specs.Format.{layout-rule}
+use Rattle.description.specs.Silo.{section-of, product-sent, product-of, eccentricities-of, bottom-of, strakes-of, depths-of, V-of, h-of}
+use Rattle.rows.specs.Rows.{depth-row}
+use Rattle.sheet.specs.Refusal.{sides-rule, product-rule, eccentricities-rule, bottom-rule, strakes-rule, depths-rule, refusal-of}
+
+abbrev pub two-bytes : ℕ → List ℕ
+two-bytes n = n % 256 ∷ n / 256 % 256 ∷ []
+
+abbrev pub four-bytes : ℕ → List ℕ
+four-bytes n = two-bytes n ++ two-bytes (n / 65536)
+
+abbrev pub heights : List ℕ → List ℕ
+heights [] = []
+heights (x ∷ l) = two-bytes x ++ heights l
+
+-- the length of the payload, the kind, the payload
+abbrev pub a-record : ℕ → List ℕ → List ℕ
+a-record t l = two-bytes (length l) ++ two-bytes t ++ l
+
+-- the sheet with μ, C0, e_i, H, r and the strakes given
+unfoldable pub case-sheet : ℕ → ℕ → ℕ → ℕ → ℕ → List ℕ → List ℕ
+case-sheet friction factor e H r strakes =
+    a-record 1 (four-bytes 5000)
+    ++ a-record 3 (four-bytes 9000 ++ two-bytes 50 ++ two-bytes friction ++ two-bytes factor)
+    ++ a-record 4 (four-bytes e ++ four-bytes 0)
+    ++ a-record 5 (four-bytes H ++ four-bytes r)
+    ++ a-record 6 (heights strakes)
+    ++ a-record 7 (four-bytes 0 ++ four-bytes 5000)
+
+-- five strakes of 2,000
+abbrev pub five : List ℕ
+five = 2000 ∷ 2000 ∷ 2000 ∷ 2000 ∷ 2000 ∷ []
+
+-- a sheet that no rule before 12 refuses, with d_c = 5,000
+pub record UpToEleven (s : List ℕ) : Type 0 where
+  pub layout : layout-rule s ≡ 0
+  pub sides : sides-rule (section-of s) ≡ 0
+  pub product : product-rule (product-sent s) ≡ 0
+  pub eccentricities : eccentricities-rule 5000 (eccentricities-of s) ≡ 0
+  pub bottom : bottom-rule 5000 (bottom-of s) ≡ 0
+  pub strakes : strakes-rule (strakes-of s) ≡ 0
+  pub depths : depths-rule (V-of s) 0 (depths-of s) ≡ 0
+  pub width : d-c (section-of s) ≡ 5000
+
+-- γ 9,000, Ks 50, μ 40, C0 140
+abbrev pub case-product : Product
+case-product = record { weight = 9000; ratio = 50; friction = 40; factor = 140 }
+
+pub record Marked : Type 0 where
+  -- P for p_hf is 31,250
+  pub deep-limit : P horizontal (Circle 5000) case-product .top ≡ 31250 * P horizontal (Circle 5000) case-product .bottom
+  -- z = 0 gives 0
+  pub surface : depth-row (Circle 5000) case-product 0 0 ≡ 0 ∷ 0 ∷ 0 ∷ 0 ∷ 0 ∷ 0 ∷ 0 ∷ 0 ∷ []
+  -- z = 5,000: p_hf 17,597, p_wf 7,345, p_vf 33,119, P_w 21,541, the first of each pair; p_he 24,636, p_we 8,080, p_p 4,928
+  pub middle : depth-row (Circle 5000) case-product 0 5000 ≡ 5000 ∷ 17597 ∷ 7345 ∷ 33119 ∷ 21541 ∷ 24636 ∷ 8080 ∷ 4928 ∷ []
+  -- h 7,500 accepted, 7,499 gives 13; 49,999 accepted, 50,000 gives 12
+  pub h-7500 : (s : List ℕ) → UpToEleven s → h-of s ≡ 7500 → refusal-of s ≡ 0
+  pub h-7499 : (s : List ℕ) → UpToEleven s → h-of s ≡ 7499 → refusal-of s ≡ 13
+  pub h-49999 : (s : List ℕ) → UpToEleven s → h-of s ≡ 49999 → refusal-of s ≡ 0
+  pub h-50000 : (s : List ℕ) → UpToEleven s → h-of s ≡ 50000 → refusal-of s ≡ 12
+  -- e 1,250 accepted, 1,251 gives 8; r 1,000 with H 364 accepted, H 363 gives 9
+  pub e-1250 : refusal-of (case-sheet 40 140 1250 0 0 five) ≡ 0
+  pub e-1251 : refusal-of (case-sheet 40 140 1251 0 0 five) ≡ 8
+  pub H-364 : refusal-of (case-sheet 40 140 0 364 1000 five) ≡ 0
+  pub H-363 : refusal-of (case-sheet 40 140 0 363 1000 five) ≡ 9
+  -- μ 10 accepted, 9 and 0 give 7; C0 0 acts as 135, 99 gives 7
+  pub friction-10 : refusal-of (case-sheet 10 140 0 0 0 five) ≡ 0
+  pub friction-9 : refusal-of (case-sheet 9 140 0 0 0 five) ≡ 7
+  pub friction-0 : refusal-of (case-sheet 0 140 0 0 0 five) ≡ 7
+  pub factor-0 : refusal-of (case-sheet 40 0 0 0 0 five) ≡ 0
+  pub factor-135 : product-of (case-sheet 40 0 0 0 0 five) ≡ product-of (case-sheet 40 135 0 0 0 five)
+  pub factor-99 : refusal-of (case-sheet 40 99 0 0 0 five) ≡ 7

@@ -1,0 +1,44 @@
+// Loads on wall and flat floor made from filling pressures. Source 001, clauses 5.2.1.2 and 5.2.2.1.
+ghost use mathlib.Core.Path.{_≡_};
+ghost use Prim.Native.Nat.{_*_, _^_, _<_, _≤_, max};
+ghost use Rattle.discharge.specs.Discharge.{p-he, p-we, p-p, p-floor};
+use janssen::Pascals;
+
+// p_he from p_hf; factor is C0 in hundredths.
+pub fn horizontal_discharge(factor: u64, filling: Pascals) -> Pascals
+    requires { ⌜ (factor ≤ 200) × (filling .0 < 2 ^ 25) ⌝ }
+    ensures { λ r. ⌜ (r .0 ≡ p-he factor (filling .0)) × (r .0 ≤ 2 ^ 26) ⌝ }
+{
+    Pascals(fraction::quotient_up(factor * filling.0 as u64, 100) as u32)
+}
+
+// p_we from p_wf.
+pub fn friction_discharge(filling: Pascals) -> Pascals
+    requires { ⌜ filling .0 < 2 ^ 25 ⌝ }
+    ensures { λ r. ⌜ r .0 ≡ p-we (filling .0) ⌝ }
+{
+    Pascals(fraction::quotient_up(11 * filling.0 as u64, 10) as u32)
+}
+
+// e, mm: the larger of the eccentricities of filling and outlet.
+pub fn eccentricity(filling: u64, outlet: u64) -> u64
+    ensures { λ r. ⌜ r ≡ max filling outlet ⌝ }
+{
+    if filling < outlet { outlet } else { filling }
+}
+
+// p_p from p_he; e and d = d_c in mm.
+pub fn patch(e: u64, d: u64, horizontal: Pascals) -> Pascals
+    requires { ⌜ (0 < d) × (d ≤ 50000) × (4 * e ≤ d) × (horizontal .0 ≤ 2 ^ 26) ⌝ }
+    ensures { λ r. ⌜ r .0 ≡ p-p e d (horizontal .0) ⌝ }
+{
+    Pascals(fraction::quotient_up((d + 4 * e) * horizontal.0 as u64, 5 * d) as u32)
+}
+
+// The load on a flat floor from p_vf at the wall's foot.
+pub fn floor(filling: Pascals) -> Pascals
+    requires { ⌜ filling .0 < 2 ^ 25 ⌝ }
+    ensures { λ r. ⌜ r .0 ≡ p-floor (filling .0) ⌝ }
+{
+    Pascals(fraction::quotient_up(12 * filling.0 as u64, 10) as u32)
+}

@@ -1,0 +1,4 @@
+pub mod Least
+pub mod Root
+pub mod Hopper
+pub mod Mixed

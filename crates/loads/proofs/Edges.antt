@@ -1,0 +1,86 @@
+-- Going down the wall strake by strake: the edge is the sum of the heights passed, and what is still to be written is the numbers
+-- of the strakes below it.
+-- Assumes nothing.
+use Prim.Native.Nat.{ℕ, zero, suc, _+_, _^_, _≤_, _<_}
+use mathlib.Core.Path.{_≡_, refl, ap, _∙_}
+use mathlib.Core.List.{List, [], _∷_}
+use native.Mathlib.Nat.{not-suc-le-zero, le-of-suc-le-suc}
+use native.Mathlib.Numerals.{add-one}
+use native.Mathlib.Omega.{arith}
+use lib.ListN.{length, getD, take, drop, set, drop-of-length-le}
+use lib.Seq.{sets, drop-cons, getD-take, length-take-le}
+use Rattle.janssen.specs.declared.Section.{Section}
+use Rattle.janssen.specs.declared.Product.{Product}
+use Rattle.janssen.specs.Range.{InDepth}
+use Rattle.description.specs.declared.Wall.{Wall}
+use Rattle.description.specs.declared.WallState.{WallState}
+use Rattle.description.specs.Silo.{sum, wall-lowered}
+use Rattle.rows.specs.Rows.{strake}
+use Rattle.loads.specs.Answers.{strake-numbers}
+
+pub edge-next : (l : List ℕ) (k : ℕ) → k < length l → sum (take (suc k) l) ≡ sum (take k l) + getD l k 0
+unfolding sum
+edge-next [] k h = absurd (not-suc-le-zero h)
+edge-next (x ∷ l) zero h = omega arith
+edge-next (x ∷ l) (suc k) h = omega (arith, edge-next l k (le-of-suc-le-suc h))
+
+pub edge-under : (l : List ℕ) (k n : ℕ) → k ≤ n → sum (take k l) ≤ sum (take n l)
+unfolding sum
+edge-under l zero n h = omega arith
+edge-under l (suc k) zero h = absurd (not-suc-le-zero h)
+edge-under [] (suc k) (suc n) h = omega arith
+edge-under (x ∷ l) (suc k) (suc n) h = omega (arith, edge-under l k n (le-of-suc-le-suc h))
+
+pub above-foot : {c : Section} {z foot : ℕ} → InDepth c foot → z ≤ foot → InDepth c z
+above-foot d h = record { slender = omega (arith, d .slender); wall = omega (arith, d .wall) }
+
+-- the first `count` heights, below the strake k
+module _ (c : Section) (p : Product) (heights : List ℕ) (count k : ℕ) (hk : k < count) (hc : count ≤ length heights) where
+  below : drop k (take count heights) ≡ getD heights k 0 ∷ drop (suc k) (take count heights)
+  below =
+      drop-cons (take count heights) k 0 (omega (arith, length-take-le count heights hc))
+      ∙ ap (λ (x : ℕ). x ∷ drop (suc k) (take count heights)) (getD-take count heights k 0 hk)
+
+  pub strakes-next : (list : List ℕ) (at edge : ℕ)
+      → sets list (at + k) (strake-numbers c p edge (drop k (take count heights)))
+      ≡ sets (set list (at + k) (strake c p (edge + getD heights k 0))) (at + (k + 1))
+      (strake-numbers c p (edge + getD heights k 0) (drop (k + 1) (take count heights)))
+  unfolding strake-numbers
+  strakes-next list at edge =
+      let e : at + (k + 1) ≡ suc (at + k) = omega arith in
+      rw (e, add-one, below)
+
+pub strakes-done : (c : Section) (p : Product) (heights : List ℕ) (count k : ℕ) → count ≤ k → count ≤ length heights
+    → (list : List ℕ) (at edge : ℕ) → sets list (at + k) (strake-numbers c p edge (drop k (take count heights))) ≡ list
+unfolding strake-numbers
+strakes-done c p heights count k h hc list at edge =
+    rw (drop-of-length-le (take count heights) {i = k} (omega (arith, length-take-le count heights hc)))
+
+-- one step down the wall
+pub record Step (wall : Wall) (k count edge : ℕ) (next : WallState) : Type 0 where
+  pub counted : next .next ≡ k + 1
+  pub lower : next .edge ≡ edge + getD (wall .heights) k 0
+  pub passed : next .edge ≡ sum (take (k + 1) (wall .heights))
+  pub inside : next .edge ≤ sum (take count (wall .heights))
+
+pub step-down : (wall : Wall) (state next : WallState) (k count : ℕ) → next ≡ wall-lowered wall state → state .next ≡ k
+    → state .edge ≡ sum (take k (wall .heights)) → k < count → count ≤ length (wall .heights) → Step wall k count (state .edge) next
+unfolding wall-lowered
+step-down wall state next k count e n s h c =
+    let l : next .edge ≡ state .edge + getD (wall .heights) k 0 =
+    ap (λ (w : WallState). w .edge) e ∙ ap (λ (i : ℕ). state .edge + getD (wall .heights) i 0) n in
+    let p : sum (take (k + 1) (wall .heights)) ≡ sum (take k (wall .heights)) + getD (wall .heights) k 0 =
+    rw add-one (edge-next (wall .heights) k (omega arith)) in
+    record {
+      counted = ap (λ (w : WallState). w .next) e ∙ ap (λ (i : ℕ). i + 1) n;
+      lower = l;
+      passed = omega arith;
+      inside = omega (arith, edge-under (wall .heights) (k + 1) count (omega arith));
+    }
+
+pub edge-fits : (wall : Wall) (state : WallState) (k count : ℕ) → state .next ≡ k → state .edge ≡ sum (take k (wall .heights))
+    → k < count → count ≤ length (wall .heights) → sum (take count (wall .heights)) ≤ 2 ^ 17
+    → state .edge + getD (wall .heights) (state .next) 0 < 4294967296
+unfolding wall-lowered
+edge-fits wall state k count n s h c f =
+    omega (arith, step-down wall state (wall-lowered wall state) k count refl n s h c .inside)

@@ -1,0 +1,101 @@
+// The answer list, part by part: depths, bottom, strakes.
+ghost use mathlib.Core.Path.{_≡_};
+ghost use Prim.Native.Nat.{_+_, _*_, _≤_};
+ghost use lib.ListN.{length, take};
+ghost use lib.Seq.{sets};
+ghost use Rattle.exponential.specs.Table.{table};
+ghost use Rattle.janssen.specs.Range.{InDepth};
+ghost use Rattle.description.specs.Silo.{silo-of, depths-of, depth-count, sum};
+ghost use Rattle.sheet.specs.Refusal.{refusal-of, length-due};
+ghost use Rattle.rows.specs.Basis.{Sound};
+ghost use Rattle.rows.specs.Rows.{bottom-row};
+ghost use Rattle.loads.specs.Answers.{e-of, basis-of, depth-rows, strake-numbers, answers};
+use description::Bottom;
+use description::Wall;
+use description::WallState;
+use description::values;
+use records::bytes::four_bytes;
+use rows::Basis;
+
+// The row's numbers, stored from a place on.
+fn store(list: &mut [u32], at: usize, row: &[u32])
+    requires { ⌜ at + length (now row) ≤ length (now list) ⌝ }
+    ensures { λ _. ⌜ now (list .exit) ≡ sets (now (list .entry)) at (now (row .entry)) ⌝ }
+{
+    let mut i = 0;
+    while i < row.len() {
+        list[at + i] = row[i];
+        i += 1;
+    }
+}
+
+// Eight numbers for each depth.
+fn fill_depths(entries: &[u64; 3393], sheet: &[u8], basis: Basis, list: &mut [u32])
+    requires { ⌜ (now entries ≡ table) × (refusal-of (now sheet) ≡ 0) × (basis ≡ basis-of (now sheet)) × (8 * depth-count (now sheet) ≤ length (now list)) ⌝ }
+    ensures { λ _. ⌜ now (list .exit) ≡ sets (now (list .entry)) 0 (depth-rows (silo-of (now (sheet .entry)) .section) (silo-of (now (sheet .entry)) .product) (e-of (silo-of (now (sheet .entry)))) (depths-of (now (sheet .entry)))) ⌝ }
+{
+    let count = values::depth_count(sheet);
+    let mut at = values::payload_place(sheet, 5);
+    let mut i = 0;
+    while i < count {
+        let row = rows::depth_numbers(entries, basis, four_bytes(sheet, at));
+        store(list, 8 * i, &row);
+        at += 4;
+        i += 1;
+    }
+}
+
+// One number for each strake, from the place `at` on.
+fn fill_strakes(entries: &[u64; 3393], basis: Basis, wall: Wall, list: &mut [u32], at: usize)
+    requires { ⌜ (now entries ≡ table) × Sound basis × (wall .count ≤ 24) × (length (wall .heights) ≡ 24) × InDepth (basis .section) (sum (take (wall .count) (wall .heights))) × (at + wall .count ≤ length (now list)) ⌝ }
+    ensures { λ _. ⌜ now (list .exit) ≡ sets (now (list .entry)) at (strake-numbers (basis .section) (basis .product) 0 (take (wall .count) (wall .heights))) ⌝ }
+{
+    let count = wall.count;
+    let mut state = WallState::top();
+    let mut k = 0;
+    while k < count {
+        state = state.lowered(wall);
+        list[at + k] = rows::strake_number(entries, basis, state.edge);
+        k += 1;
+    }
+}
+
+// Ten numbers for the bottom, from the place `at` on; the wall's foot is `foot` mm below the brim.
+fn fill_bottom(
+    entries: &[u64; 3393],
+    basis: Basis,
+    bottom: Bottom,
+    foot: u64,
+    list: &mut [u32],
+    at: usize,
+)
+    requires { ⌜ (now entries ≡ table) × Sound basis × InDepth (basis .section) foot × (bottom .height ≤ 25000) × (bottom .run ≤ 25000) × (at + 10 ≤ length (now list)) ⌝ }
+    ensures { λ _. ⌜ now (list .exit) ≡ sets (now (list .entry)) at (bottom-row (basis .section) (basis .product) (bottom .height) (bottom .run) foot) ⌝ }
+{
+    let row = rows::bottom_numbers(entries, basis, bottom.height, bottom.run, foot);
+    store(list, at, &row);
+}
+
+// The whole list, of the length due.
+pub fn fill(sheet: &[u8], list: &mut [u32])
+    requires { ⌜ (refusal-of (now sheet) ≡ 0) × (length (now list) ≡ length-due (now sheet)) ⌝ }
+    ensures { λ _. ⌜ now (list .exit) ≡ answers (now (sheet .entry)) ⌝ }
+{
+    let entries = exponential::table::entries();
+    let silo = description::read_silo(sheet);
+    let section = silo.section;
+    let product = silo.product;
+    let basis = rows::basis_of(
+        section,
+        product,
+        silo.eccentricities.inlet,
+        silo.eccentricities.outlet,
+    );
+    fill_depths(&entries, sheet, basis, list);
+    let at = 8 * values::depth_count(sheet);
+    let foot = values::wall_height(sheet);
+    let bottom = silo.bottom;
+    fill_bottom(&entries, basis, bottom, foot, list, at);
+    let wall = silo.wall;
+    fill_strakes(&entries, basis, wall, list, at + 10);
+}

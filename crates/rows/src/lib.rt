@@ -1,0 +1,180 @@
+// The numbers of the answer list: of a depth, of the bottom, of a strake.
+ghost use mathlib.Core.Path.{_≡_};
+ghost use Prim.Native.Nat.{max, _*_, _^_, _<_, _≤_};
+ghost use Rattle.janssen.specs.Range.{InRange, InDepth};
+ghost use Rattle.hopper.specs.Hopper.{p-n, p-t};
+ghost use Rattle.exponential.specs.Table.{table};
+ghost use Rattle.rows.specs.Rows.{eight, depth-row, quarters, ten, bottom-row, strake};
+ghost use Rattle.rows.specs.Basis.{basis-for, Sound};
+use janssen::FillingLoads;
+use janssen::Pascals;
+use janssen::Prepared;
+use janssen::Product;
+use janssen::Section;
+
+// What the loads of a sheet rest on, worked out once.
+pub struct Basis {
+    pub section: Section,
+    pub product: Product,
+    pub prepared: Prepared,
+    // e, mm
+    pub eccentricity: u64,
+    // d_c, mm
+    pub shorter: u64,
+}
+
+// The basis from section, product and the eccentricities of filling and outlet, mm.
+pub fn basis_of(section: Section, product: Product, filling: u64, outlet: u64) -> Basis
+    requires { ⌜ InRange section product ⌝ }
+    ensures { λ r. ⌜ r ≡ basis-for section product (max filling outlet) ⌝ }
+{
+    let prepared = janssen::prepare(section, product);
+    let eccentricity = discharge::eccentricity(filling, outlet);
+    let shorter = janssen::shorter_side(section);
+    Basis {
+        section,
+        product,
+        prepared,
+        eccentricity,
+        shorter,
+    }
+}
+
+// The eight numbers at the depth z mm from its filling loads; factor is C0 in hundredths, e and d = d_c in mm.
+fn eight_numbers(filling: FillingLoads, factor: u64, e: u64, d: u64, z: u32) -> [u32; 8]
+    requires { ⌜ (filling .horizontal .0 < 2 ^ 25) × (filling .«wall_friction» .0 < 2 ^ 25) × (factor ≤ 200) × (0 < d) × (d ≤ 50000) × (4 * e ≤ d) ⌝ }
+    ensures { λ r. ⌜ r ≡ eight factor e d z (filling .horizontal .0) (filling .«wall_friction» .0) (filling .vertical .0) (filling .«wall_load» .0) ⌝ }
+{
+    let filled = filling.horizontal;
+    let rubbed = filling.wall_friction;
+    let horizontal = discharge::horizontal_discharge(factor, filled);
+    let friction = discharge::friction_discharge(rubbed);
+    let patch = discharge::patch(e, d, horizontal);
+    [
+        z,
+        filling.horizontal.0,
+        filling.wall_friction.0,
+        filling.vertical.0,
+        filling.wall_load.0,
+        horizontal.0,
+        friction.0,
+        patch.0,
+    ]
+}
+
+// The hopper's loads at one place of its slope.
+pub struct HopperLoads {
+    // P_n
+    pub normal: Pascals,
+    // P_t
+    pub friction: Pascals,
+}
+
+// P_n and P_t at k quarters of the slope; height and run in mm, friction is the mean μ in hundredths, filling is n3, Pa.
+fn quarter(
+    height: u64,
+    run: u64,
+    k: u64,
+    friction: u64,
+    filling: u64,
+    vertical: Pascals,
+) -> HopperLoads
+    requires { ⌜ (height ≤ 25000) × (0 < run) × (run ≤ 25000) × (k ≤ 4) × (friction ≤ 100) × (filling ≤ 10350000) × (vertical .0 < 2 ^ 25) ⌝ }
+    ensures { λ r. ⌜ (r .normal .0 ≡ p-n height run k filling (vertical .0)) × (r .friction .0 ≡ p-t friction (p-n height run k filling (vertical .0))) ⌝ }
+{
+    let normal = hopper::hopper_normal(height, run, k, filling, vertical);
+    let friction = hopper::hopper_friction(friction, normal);
+    HopperLoads { normal, friction }
+}
+
+// P_n and then P_t at the five quarters.
+fn hopper_row(height: u64, run: u64, friction: u64, filling: u64, vertical: Pascals) -> [u32; 10]
+    requires { ⌜ (height ≤ 25000) × (0 < run) × (run ≤ 25000) × (friction ≤ 100) × (filling ≤ 10350000) × (vertical .0 < 2 ^ 25) ⌝ }
+    ensures { λ r. ⌜ r ≡ quarters height run friction filling (vertical .0) ⌝ }
+{
+    let outlet = quarter(height, run, 0, friction, filling, vertical);
+    let first = quarter(height, run, 1, friction, filling, vertical);
+    let second = quarter(height, run, 2, friction, filling, vertical);
+    let third = quarter(height, run, 3, friction, filling, vertical);
+    let top = quarter(height, run, 4, friction, filling, vertical);
+    [
+        outlet.normal.0,
+        first.normal.0,
+        second.normal.0,
+        third.normal.0,
+        top.normal.0,
+        outlet.friction.0,
+        first.friction.0,
+        second.friction.0,
+        third.friction.0,
+        top.friction.0,
+    ]
+}
+
+// The ten numbers of the bottom, height and run in mm, from p_vf at the wall's foot; no run is a flat floor.
+fn ten_numbers(
+    section: Section,
+    product: Product,
+    height: u64,
+    run: u64,
+    vertical: Pascals,
+) -> [u32; 10]
+    requires { ⌜ (InRange section product) × (height ≤ 25000) × (run ≤ 25000) × (vertical .0 < 2 ^ 25) ⌝ }
+    ensures { λ r. ⌜ r ≡ ten section product height run (vertical .0) ⌝ }
+{
+    if run == 0 {
+        let floor = discharge::floor(vertical);
+        return [floor.0, 0, 0, 0, 0, 0, 0, 0, 0, 0];
+    }
+    let base = hopper::hopper_base(section, product, height, run);
+    let friction = product.friction;
+    let filling = hopper::hopper_filling(friction, base);
+    hopper_row(height, run, friction, filling, vertical)
+}
+
+// The eight numbers of the answer list at the depth z mm.
+pub fn depth_numbers(entries: &[u64; 3393], basis: Basis, z: u64) -> [u32; 8]
+    requires { ⌜ (now entries ≡ table) × Sound basis × InDepth (basis .section) z ⌝ }
+    ensures { λ r. ⌜ r ≡ depth-row (basis .section) (basis .product) (basis .eccentricity) z ⌝ }
+{
+    let prepared = basis.prepared;
+    let filling = janssen::loads_at(entries, prepared, z);
+    eight_numbers(
+        filling,
+        basis.product.factor,
+        basis.eccentricity,
+        basis.shorter,
+        z as u32,
+    )
+}
+
+// The ten numbers of the bottom, height and run in mm, for the wall's foot at the depth foot mm.
+pub fn bottom_numbers(
+    entries: &[u64; 3393],
+    basis: Basis,
+    height: u64,
+    run: u64,
+    foot: u64,
+) -> [u32; 10]
+    requires { ⌜ (now entries ≡ table) × Sound basis × InDepth (basis .section) foot × (height ≤ 25000) × (run ≤ 25000) ⌝ }
+    ensures { λ r. ⌜ r ≡ bottom-row (basis .section) (basis .product) height run foot ⌝ }
+{
+    let prepared = basis.prepared;
+    let curve = prepared.vertical;
+    let section = basis.section;
+    let product = basis.product;
+    let vertical = janssen::filling_pressure(entries, curve, foot);
+    ten_numbers(section, product, height, run, vertical)
+}
+
+// A strake's number: p_he at its lower edge, edge mm below the brim.
+pub fn strake_number(entries: &[u64; 3393], basis: Basis, edge: u64) -> u32
+    requires { ⌜ (now entries ≡ table) × Sound basis × InDepth (basis .section) edge ⌝ }
+    ensures { λ r. ⌜ r ≡ strake (basis .section) (basis .product) edge ⌝ }
+{
+    let prepared = basis.prepared;
+    let curve = prepared.horizontal;
+    let horizontal = janssen::filling_pressure(entries, curve, edge);
+    let load = discharge::horizontal_discharge(basis.product.factor, horizontal);
+    load.0
+}

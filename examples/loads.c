@@ -1,0 +1,40 @@
+/* Asks for the loads of a circular tower of 5 m by 10 m, and of the same tower one strake high, which is refused as squat. */
+#include "silo.h"
+#include <inttypes.h>
+#include <stdio.h>
+
+/* The bytes of a number, lowest first, and a record's header. */
+#define U16(n) (n) & 255, (n) >> 8
+#define U32(n) (n) & 255, (n) >> 8 & 255, (n) >> 16 & 255, (n) >> 24
+#define RECORD(length, kind) U16(length), U16(kind)
+
+/* A circle of 5,000 mm; 9,000 N/m3, Ks 50, mu 40, C0 140; no eccentricity; a flat floor. */
+#define TOWER                                                                                                                  \
+    RECORD(4, 1), U32(5000), RECORD(10, 3), U32(9000), U16(50), U16(40), U16(140), RECORD(8, 4), U32(0), U32(0), RECORD(8, 5), \
+        U32(0), U32(0)
+
+/* Five strakes of 2,000 mm, and depths of 0 and 5,000 mm. */
+static const uint8_t tower[] = {TOWER,     RECORD(10, 6), U16(2000),    U16(2000), U16(2000),
+                                U16(2000), U16(2000),     RECORD(8, 7), U32(0),    U32(5000)};
+
+/* One strake, and the depth 0. */
+static const uint8_t squat[] = {TOWER, RECORD(2, 6), U16(2000), RECORD(4, 7), U32(0)};
+
+static void print_loads(const char *name, const uint8_t *sheet, size_t sheet_len) {
+    uint32_t answers[8 * 200 + 10 + 24];
+    uint64_t length = silo_answers_length(sheet, sheet_len);
+    if (length < SILO_LENGTH_MARK) {
+        printf("%s: refusal %" PRIu64 "\n", name, length);
+        return;
+    }
+    length -= SILO_LENGTH_MARK;
+    printf("%s: %" PRIu64 " numbers, answer %" PRIu32 "\n", name, length, silo_loads(sheet, sheet_len, answers, length));
+    for (uint64_t i = 0; i < length; i++)
+        printf("%" PRIu32 "\n", answers[i]);
+}
+
+int main(void) {
+    print_loads("tower", tower, sizeof tower);
+    print_loads("squat", squat, sizeof squat);
+    return 0;
+}

@@ -1,0 +1,78 @@
+/* Wall loads of a slender, gravity-emptied silo by ENV 1991-4. Link with libsilo.a.
+ *
+ * A sheet is six records, one after another. A record is a two-byte payload length, a two-byte kind, then the payload; all
+ * numbers are little-endian and unsigned. In this order:
+ *
+ *   kind 1  circle     u32 diameter d (mm)                          or
+ *   kind 2  rectangle  u32 side a, u32 side b (mm)
+ *   kind 3  product    u32 weight (N/m3); u16 mean ratio Ks, u16 mean friction mu, u16 factor C0 (hundredths; C0 = 0 is 135)
+ *   kind 4  filling    u32 e_i, u32 e_o: eccentricities at filling and at the outlet (mm)
+ *   kind 5  bottom     u32 hopper height H, u32 run r (mm); both 0 is a flat floor
+ *   kind 6  strakes    1 to 24 u16 heights, top first (mm)
+ *   kind 7  depths     1 to 200 u32 depths below the brim, strictly rising (mm)
+ *
+ * d_c is d or the shorter side, V the sum of the strakes, h = V + H.
+ *
+ * An answer list is of u32 numbers:
+ *
+ *   for each depth, eight:  z (mm), p_hf, p_wf, p_vf (Pa), P_w (N/m of perimeter), p_he, p_we, p_p (Pa)
+ *   then ten for the bottom: the load on a flat floor (Pa) and nine zeros; or a hopper's P_n at k = 0..4 and then its P_t at
+ *                           k = 0..4 (Pa), k quarters of the slope counted up from the outlet
+ *   then one per strake:    p_he at its lower edge (Pa)
+ *
+ * Refusals, tried in this order; a refused call changes no memory that it was lent:
+ *
+ *    1  sheet over 1,024 bytes
+ *    2  a header or a payload cut short; an empty sheet too
+ *    3  a record's kind is not the one due
+ *    4  a payload's length is not one that its kind allows
+ *    5  bytes left over after the sixth record
+ *    6  d, a or b outside 500..50,000 mm
+ *    7  weight outside 1,000..30,000 N/m3, Ks outside 20..100, mu outside 10..100, or C0 neither 0 nor 100..200
+ *    8  an eccentricity e with 4e > d_c
+ *    9  a bottom that is neither flat nor a hopper with r >= 1, 2r < d_c, H <= 25,000 and 1,000,000 H >= 363,971 r (a slope
+ *       of over 20 degrees)
+ *   10  a strake outside 200..3,000 mm
+ *   11  a depth over V, or not greater than the one before it
+ *   12  h >= 10 d_c
+ *   13  squat: 2h < 3 d_c
+ *   14  the answer list is not exactly of the length due (silo_loads only)
+ *   15  no such row or wall in the catalogue (silo_catalogue only)
+ *   16  the catalogue buffer is not of 14 bytes (silo_catalogue only)
+ *
+ * A pointer is never null, whatever its length, and points to that many elements; a list that is written overlaps no sheet.
+ */
+#ifndef SILO_H
+#define SILO_H
+
+#include <stddef.h>
+#include <stdint.h>
+
+#ifdef __cplusplus
+extern "C" {
+#endif
+
+/* silo_answers_length adds this to a length, so that no length is a refusal's number. */
+#define SILO_LENGTH_MARK (UINT64_C(1) << 32)
+
+/* Bytes of the product record that silo_catalogue writes. */
+#define SILO_PRODUCT_RECORD 14
+
+/* Fills the answer list of answers_len numbers for the sheet of sheet_len bytes.
+ * Returns 0; or a refusal, 1 to 14, and the list is as it was. */
+uint32_t silo_loads(const uint8_t *sheet, size_t sheet_len, uint32_t *answers, size_t answers_len);
+
+/* The answer list's length in numbers, 8 times the depths plus 10 plus the strakes.
+ * Returns SILO_LENGTH_MARK plus that length; or a refusal, 1 to 13. */
+uint64_t silo_answers_length(const uint8_t *sheet, size_t sheet_len);
+
+/* Writes the product record of a row of table 7.1 of ENV 1991-4, rows counted from 0 in its order: barley, cement, clinker, dry
+ * sand, flour, fly ash, maize, sugar, wheat, coal. Wall 0 is steel, wall 1 concrete.
+ * Returns 0; or a refusal, 15 or 16, and the buffer is as it was. */
+uint32_t silo_catalogue(uint32_t row, uint32_t wall, uint8_t *record, size_t record_len);
+
+#ifdef __cplusplus
+}
+#endif
+
+#endif

@@ -1,0 +1,120 @@
+//! The loads of document 01 as exact numbers: lengths in metres, hundredths as plain ratios, nothing rounded.
+
+use crate::exact::{exponential, fraction, whole, Fraction, Real};
+use crate::sheet::Silo;
+
+/// A row of document 01's table of factors: hundredths for Ks and for μ.
+#[derive(Clone, Copy)]
+pub struct Row(u64, u64);
+
+pub const HORIZONTAL: Row = Row(115, 90);
+pub const VERTICAL: Row = Row(90, 90);
+pub const FRICTION: Row = Row(115, 115);
+
+fn metres(mm: u64) -> Fraction {
+    fraction(mm, 1_000)
+}
+
+/// R = a·b/(2(a+b)), in m with the sides in mm.
+fn radius(silo: &Silo) -> Fraction {
+    let (a, b) = (silo.a(), silo.b());
+    fraction(a * b, 2 * (a + b) * 1_000)
+}
+
+/// γR.
+fn weight_radius(silo: &Silo) -> Fraction {
+    radius(silo).times(&whole(silo.weight))
+}
+
+/// Ks and μ with the row's factors.
+fn factored(silo: &Silo, row: Row) -> (Fraction, Fraction) {
+    (fraction(silo.ratio * row.0, 10_000), fraction(silo.friction * row.1, 10_000))
+}
+
+/// z0 = R/(Ks·μ).
+fn z0(silo: &Silo, row: Row) -> Fraction {
+    let (ratio, friction) = factored(silo, row);
+    radius(silo).over(&ratio.times(&friction))
+}
+
+/// q = z/z0.
+pub fn q(silo: &Silo, row: Row, depth: u64) -> Fraction {
+    metres(depth).over(&z0(silo, row))
+}
+
+/// P, the factor before the bracket of p_hf, p_vf and p_wf, in Pa.
+pub fn before_bracket(silo: &Silo) -> [Fraction; 3] {
+    let (_, friction) = factored(silo, HORIZONTAL);
+    let horizontal = weight_radius(silo).over(&friction);
+    let (ratio, friction) = factored(silo, VERTICAL);
+    let vertical = weight_radius(silo).over(&ratio.times(&friction));
+    [horizontal, vertical, weight_radius(silo)]
+}
+
+/// Filling at one depth: pressures in Pa, P_w in N/m.
+pub struct Filling {
+    pub horizontal: Real,
+    pub vertical: Real,
+    pub friction: Real,
+    pub line: Real,
+}
+
+pub fn filling(silo: &Silo, depth: u64) -> Filling {
+    let one = Real::exactly(whole(1));
+    let bracket = |row| one.minus(&exponential(&q(silo, row, depth)));
+    let [horizontal, vertical, friction] = before_bracket(silo);
+    let friction_bracket = bracket(FRICTION);
+    let z = Real::exactly(metres(depth));
+    let length = z.minus(&friction_bracket.times(&z0(silo, FRICTION)));
+    Filling {
+        horizontal: bracket(HORIZONTAL).times(&horizontal),
+        vertical: bracket(VERTICAL).times(&vertical),
+        friction: friction_bracket.times(&friction),
+        line: length.times(&weight_radius(silo)),
+    }
+}
+
+/// C0, a blank one read as 1.35.
+pub fn discharge(silo: &Silo) -> Fraction {
+    fraction(if silo.factor == 0 { 135 } else { silo.factor }, 100)
+}
+
+/// 0.2·β, β = 1 + 4e/d_c.
+pub fn patch(silo: &Silo) -> Fraction {
+    let e = silo.e_i.max(silo.e_o);
+    fraction(4 * e, silo.d_c()).plus(&whole(1)).times(&fraction(2, 10))
+}
+
+/// 1.15·μ.
+pub fn hopper_friction(silo: &Silo) -> Fraction {
+    fraction(115 * silo.friction, 10_000)
+}
+
+/// sin²α = H²/(H²+r²) and cos²α, α from the horizontal.
+fn slope(silo: &Silo) -> (Fraction, Fraction) {
+    let (height, run) = (silo.hopper_height.pow(2), silo.run.pow(2));
+    (fraction(height, height + run), fraction(run, height + run))
+}
+
+/// 1.2cos²α + sin²α·k/4.
+pub fn hopper_share(silo: &Silo, k: u64) -> Fraction {
+    let (sine, cosine) = slope(silo);
+    cosine.times(&fraction(12, 10)).plus(&sine.times(&fraction(k, 4)))
+}
+
+/// 3·R·γ·1.15·Ks·sin²α.
+pub fn hopper_filling(silo: &Silo) -> Fraction {
+    let ratio = fraction(115 * silo.ratio, 10_000);
+    weight_radius(silo).times(&whole(3)).times(&ratio).times(&slope(silo).0)
+}
+
+/// 0.9·μ.
+pub fn lower_friction(silo: &Silo) -> Fraction {
+    fraction(90 * silo.friction, 10_000)
+}
+
+/// (5.18) with nothing rounded: the square root of hopper_filling²/(0.9·μ).
+pub fn n3(silo: &Silo) -> Real {
+    let filling = hopper_filling(silo);
+    Real::square_root(&filling.times(&filling).over(&lower_friction(silo)))
+}

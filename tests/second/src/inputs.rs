@@ -1,0 +1,232 @@
+//! Random and extreme silos, and damaged sheets, from one seed.
+
+use crate::sheet::{parse, Silo};
+
+/// Numbers that are the same on every run (splitmix64).
+pub struct Random {
+    state: u64,
+    /// `within` gives ends alone.
+    ends: bool,
+}
+
+impl Random {
+    pub fn new(seed: u64) -> Random {
+        Random { state: seed, ends: false }
+    }
+
+    fn next(&mut self) -> u64 {
+        self.state = self.state.wrapping_add(0x9E37_79B9_7F4A_7C15);
+        let mut n = self.state;
+        n = (n ^ n >> 30).wrapping_mul(0xBF58_476D_1CE4_E5B9);
+        n = (n ^ n >> 27).wrapping_mul(0x94D0_49BB_1331_11EB);
+        n ^ n >> 31
+    }
+
+    pub fn below(&mut self, limit: u64) -> u64 {
+        self.next() % limit
+    }
+
+    pub fn one_in(&mut self, n: u64) -> bool {
+        self.below(n) == 0
+    }
+
+    /// From low to high, and each end one time in eight.
+    fn within(&mut self, low: u64, high: u64) -> u64 {
+        match self.below(if self.ends { 2 } else { 8 }) {
+            0 => low,
+            1 => high,
+            _ => low + self.below(high - low + 1),
+        }
+    }
+
+    fn pick<T: Clone>(&mut self, of: &[T]) -> T {
+        of[self.below(of.len() as u64) as usize].clone()
+    }
+}
+
+/// A silo that is accepted.
+pub fn silo(random: &mut Random) -> Silo {
+    loop {
+        random.ends = random.one_in(8);
+        let mut silo = candidate(random);
+        random.ends = false;
+        silo.depths = depths(random, &silo);
+        if parse(&silo.sheet()) == Ok(silo.clone()) {
+            return silo;
+        }
+    }
+}
+
+fn candidate(random: &mut Random) -> Silo {
+    let shorter = match random.below(3) {
+        0 => random.within(500, 3_000),
+        1 => random.within(500, 12_000),
+        _ => random.within(500, 50_000),
+    };
+    let longer = random.within(shorter, 50_000);
+    let section = random.pick(&[vec![shorter], vec![shorter, longer], vec![longer, shorter]]);
+    let d_c = shorter;
+    let flat = random.one_in(2);
+    let run = if flat { 0 } else { random.within(1, (d_c - 1) / 2) };
+    let flattest = (363_971 * run).div_ceil(1_000_000);
+    let hopper_height = if flat { 0 } else { random.within(flattest, 25_000) };
+    let strakes = wall(random, d_c, hopper_height);
+    let eccentricity = [0, random.within(0, d_c / 4), random.within(0, d_c / 4)];
+    Silo {
+        section,
+        weight: random.within(1_000, 30_000),
+        ratio: random.within(20, 100),
+        friction: random.within(10, 100),
+        factor: if random.one_in(4) { 0 } else { random.within(100, 200) },
+        e_i: random.pick(&eccentricity),
+        e_o: random.pick(&eccentricity),
+        hopper_height,
+        run,
+        strakes,
+        depths: vec![],
+    }
+}
+
+/// Strakes that make h slender, where 24 of them can.
+fn wall(random: &mut Random, d_c: u64, hopper_height: u64) -> Vec<u64> {
+    let height = random.within((3 * d_c).div_ceil(2), (10 * d_c - 1).min(97_000));
+    let mut left = height.saturating_sub(hopper_height).clamp(200, 72_000);
+    let count = random.within(left.div_ceil(3_000), (left / 200).min(24));
+    let mut heights = Vec::new();
+    for after in (0..count).rev() {
+        let lowest = left.saturating_sub(3_000 * after).max(200);
+        let highest = (left - 200 * after).min(3_000);
+        let height = random.within(lowest, highest);
+        heights.push(height);
+        left -= height;
+    }
+    heights
+}
+
+/// Depths with the ends, lower edges and neighbouring millimetres among them.
+pub fn depths(random: &mut Random, silo: &Silo) -> Vec<u64> {
+    let foot = silo.foot();
+    let count = if random.one_in(40) { 200 } else { 1 + random.below(9) };
+    let mut depths = Vec::new();
+    while depths.len() < count as usize {
+        let depth = match random.below(8) {
+            0 => random.below(foot.min(64)),
+            1 => random.pick(&silo.edges()),
+            2 => depths.last().map_or(0, |depth| depth + 1),
+            3 => just_above_whole(random, silo),
+            _ => random.within(0, foot),
+        };
+        depths.push(depth.min(foot));
+    }
+    depths.sort();
+    depths.dedup();
+    depths
+}
+
+/// Of many depths, the one where a pressure or P_w is the least above a whole number: what is rounded down a little there is below
+/// its exact value.
+fn just_above_whole(random: &mut Random, silo: &Silo) -> u64 {
+    let (a, b) = (silo.a() as f64, silo.b() as f64);
+    let (ratio, friction) = (silo.ratio as f64 / 100.0, silo.friction as f64 / 100.0);
+    let radius = a * b / (a + b) / 2_000.0;
+    let load = random.below(4);
+    let (ratio, friction) = match load {
+        0 => (1.15 * ratio, 0.9 * friction),
+        1 => (0.9 * ratio, 0.9 * friction),
+        _ => (1.15 * ratio, 1.15 * friction),
+    };
+    let z0 = radius / (ratio * friction);
+    let value = |depth: u64| {
+        let z = depth as f64 / 1_000.0;
+        let bracket = 1.0 - (-z / z0).exp();
+        silo.weight as f64
+            * match load {
+                0 => radius / friction * bracket,
+                1 => radius / (friction * ratio) * bracket,
+                2 => radius * bracket,
+                _ => radius * (z - z0 * bracket),
+            }
+    };
+    let candidates = (0..2_000).map(|_| 1 + random.below(silo.foot()));
+    let nearest = candidates.map(|depth| (value(depth).fract(), depth));
+    nearest.min_by(|one, other| one.0.total_cmp(&other.0)).map_or(0, |(_, depth)| depth)
+}
+
+/// Another accepted silo with the same section and product, and depths beside the first one's.
+pub fn sibling(random: &mut Random, silo: &Silo) -> Silo {
+    loop {
+        let mut sibling = silo.clone();
+        sibling.e_o = random.within(0, silo.d_c() / 4);
+        sibling.strakes = wall(random, silo.d_c(), silo.hopper_height);
+        let foot = sibling.foot();
+        sibling.depths = depths(random, &sibling);
+        sibling.depths.extend(silo.depths.iter().map(|depth| depth + random.below(3)));
+        sibling.depths.retain(|depth| *depth <= foot);
+        sibling.depths.sort();
+        sibling.depths.dedup();
+        sibling.depths.truncate(200);
+        if parse(&sibling.sheet()).is_ok() {
+            return sibling;
+        }
+    }
+}
+
+/// A sheet with something wrong, or with a number at or just past a limit.
+pub fn damaged(random: &mut Random, silo: &Silo) -> Vec<u8> {
+    let mut bytes = silo.sheet();
+    let at = random.below(bytes.len() as u64) as usize;
+    match random.below(10) {
+        0 => bytes[at] ^= 1 << random.below(8),
+        1 => bytes[at] = random.next() as u8,
+        2 => bytes.truncate(at),
+        3 => {
+            let extra = if random.one_in(2) { 1 + random.below(4) } else { 1_024 };
+            bytes.extend((0..extra).map(|_| random.next() as u8));
+        }
+        4 => drop(bytes.remove(at)),
+        5 => bytes.insert(at, random.next() as u8),
+        6 => {
+            let length = random.within(0, 1_100);
+            bytes = (0..length).map(|_| random.pick(&[0, 1, 2, 3, 4, 8, 10])).collect();
+        }
+        _ => bytes = past_a_limit(random, silo.clone()).sheet(),
+    }
+    bytes
+}
+
+/// Moves one or two numbers to a limit of document 01, or one past it.
+fn past_a_limit(random: &mut Random, mut silo: Silo) -> Silo {
+    for _ in 0..=random.below(2) {
+        let near = |random: &mut Random, limits: &[u64]| {
+            (random.pick(limits) + random.below(3)).saturating_sub(1)
+        };
+        let d_c = silo.d_c();
+        let strake = random.below(silo.strakes.len() as u64) as usize;
+        let depth = random.below(silo.depths.len() as u64) as usize;
+        match random.below(14) {
+            0 => silo.section[0] = near(random, &[500, 50_000, 0, u32::MAX.into()]),
+            1 => silo.weight = near(random, &[1_000, 30_000, 0, u32::MAX.into()]),
+            2 => silo.ratio = near(random, &[20, 100, 0]),
+            3 => silo.friction = near(random, &[10, 100, 0]),
+            4 => silo.factor = near(random, &[0, 100, 200, 65_534]),
+            5 => silo.e_i = near(random, &[d_c / 4, u32::MAX.into()]),
+            6 => silo.e_o = near(random, &[d_c / 4, 1 << 30]),
+            7 => silo.run = near(random, &[0, d_c / 2, u32::MAX.into()]),
+            8 => silo.hopper_height = near(random, &[0, 25_000, 363_971 * silo.run / 1_000_000]),
+            9 => silo.strakes[strake] = near(random, &[200, 3_000, 0]),
+            10 => silo.depths[depth] = near(random, &[silo.foot(), 0]),
+            11 => silo.depths.insert(depth, silo.depths[depth]),
+            12 => stretch(&mut silo, near(random, &[10 * d_c])),
+            _ => stretch(&mut silo, near(random, &[3 * d_c / 2])),
+        }
+    }
+    silo
+}
+
+/// Makes h that height with equal strakes, where they can.
+fn stretch(silo: &mut Silo, height: u64) {
+    let foot = height.saturating_sub(silo.hopper_height).clamp(200, 72_000);
+    let count = foot.div_ceil(3_000);
+    silo.strakes = (0..count).map(|i| (foot + i) / count).collect();
+    silo.depths = vec![0, foot];
+}

@@ -1,0 +1,165 @@
+//! A sheet and the order in which it is refused, as document 01 writes them down.
+
+/// What a sheet says; lengths in mm, weight in N/m³, ratio, friction and factor in hundredths.
+#[derive(Clone, Debug, PartialEq, Eq)]
+pub struct Silo {
+    /// One diameter, or two sides.
+    pub section: Vec<u64>,
+    pub weight: u64,
+    pub ratio: u64,
+    pub friction: u64,
+    /// As written: 0 stands for 135.
+    pub factor: u64,
+    pub e_i: u64,
+    pub e_o: u64,
+    pub hopper_height: u64,
+    pub run: u64,
+    pub strakes: Vec<u64>,
+    pub depths: Vec<u64>,
+}
+
+impl Silo {
+    pub fn a(&self) -> u64 {
+        self.section[0]
+    }
+
+    pub fn b(&self) -> u64 {
+        self.section[self.section.len() - 1]
+    }
+
+    pub fn d_c(&self) -> u64 {
+        self.a().min(self.b())
+    }
+
+    /// V, the wall's foot.
+    pub fn foot(&self) -> u64 {
+        self.strakes.iter().sum()
+    }
+
+    /// h = V + H.
+    pub fn height(&self) -> u64 {
+        self.foot() + self.hopper_height
+    }
+
+    pub fn edges(&self) -> Vec<u64> {
+        (1..=self.strakes.len()).map(|n| self.strakes[..n].iter().sum()).collect()
+    }
+
+    pub fn answers_length(&self) -> usize {
+        8 * self.depths.len() + 10 + self.strakes.len()
+    }
+
+    pub fn sheet(&self) -> Vec<u8> {
+        let product = [self.ratio, self.friction, self.factor];
+        [
+            record(self.section.len() as u16, bytes(4, &self.section)),
+            record(3, [bytes(4, &[self.weight]), bytes(2, &product)].concat()),
+            record(4, bytes(4, &[self.e_i, self.e_o])),
+            record(5, bytes(4, &[self.hopper_height, self.run])),
+            record(6, bytes(2, &self.strakes)),
+            record(7, bytes(4, &self.depths)),
+        ]
+        .concat()
+    }
+}
+
+fn record(kind: u16, payload: Vec<u8>) -> Vec<u8> {
+    let length = payload.len() as u16;
+    [&length.to_le_bytes()[..], &kind.to_le_bytes(), &payload].concat()
+}
+
+/// The lowest bytes of each number, lowest first.
+fn bytes(width: usize, numbers: &[u64]) -> Vec<u8> {
+    numbers.iter().flat_map(|number| number.to_le_bytes().into_iter().take(width)).collect()
+}
+
+fn number(bytes: &[u8]) -> u64 {
+    bytes.iter().rev().fold(0, |n, byte| n << 8 | u64::from(*byte))
+}
+
+fn numbers(payload: &[u8], width: usize) -> Vec<u64> {
+    payload.chunks(width).map(number).collect()
+}
+
+/// The silo, or the number of the refusal.
+pub fn parse(sheet: &[u8]) -> Result<Silo, u64> {
+    if sheet.len() > 1024 {
+        return Err(1);
+    }
+    let silo = records(sheet)?;
+    match judge(&silo) {
+        0 => Ok(silo),
+        refusal => Err(refusal),
+    }
+}
+
+/// Refusals 2 to 5: header, kind, length, payload present, record by record; then nothing left over.
+fn records(sheet: &[u8]) -> Result<Silo, u64> {
+    let due: [&[u64]; 6] = [&[1, 2], &[3], &[4], &[5], &[6], &[7]];
+    let mut rest = sheet;
+    let mut payloads = Vec::new();
+    for kinds in due {
+        let header = rest.get(..4).ok_or(2u64)?;
+        let (length, kind) = (number(&header[..2]) as usize, number(&header[2..]));
+        if !kinds.contains(&kind) {
+            return Err(3);
+        }
+        let allowed = match kind {
+            1 => length == 4,
+            2 | 4 | 5 => length == 8,
+            3 => length == 10,
+            6 => length % 2 == 0 && (1..=24).contains(&(length / 2)),
+            _ => length % 4 == 0 && (1..=200).contains(&(length / 4)),
+        };
+        if !allowed {
+            return Err(4);
+        }
+        payloads.push(rest[4..].get(..length).ok_or(2u64)?);
+        rest = &rest[4 + length..];
+    }
+    if !rest.is_empty() {
+        return Err(5);
+    }
+    let product = payloads[1];
+    Ok(Silo {
+        section: numbers(payloads[0], 4),
+        weight: number(&product[..4]),
+        ratio: number(&product[4..6]),
+        friction: number(&product[6..8]),
+        factor: number(&product[8..]),
+        e_i: number(&payloads[2][..4]),
+        e_o: number(&payloads[2][4..]),
+        hopper_height: number(&payloads[3][..4]),
+        run: number(&payloads[3][4..]),
+        strakes: numbers(payloads[4], 2),
+        depths: numbers(payloads[5], 4),
+    })
+}
+
+/// Refusals 6 to 13, or 0.
+fn judge(silo: &Silo) -> u64 {
+    let d_c = silo.d_c();
+    let (hopper, run) = (silo.hopper_height, silo.run);
+    let steep = 1_000_000 * hopper >= 363_971 * run;
+    let flat = hopper == 0 && run == 0;
+    let hopper_fits = run >= 1 && 2 * run < d_c && hopper <= 25_000 && steep;
+    let product_fits = (1_000..=30_000).contains(&silo.weight)
+        && (20..=100).contains(&silo.ratio)
+        && (10..=100).contains(&silo.friction)
+        && (silo.factor == 0 || (100..=200).contains(&silo.factor));
+    let wrong = [
+        (6, silo.section.iter().any(|side| !(500..=50_000).contains(side))),
+        (7, !product_fits),
+        (8, 4 * silo.e_i > d_c || 4 * silo.e_o > d_c),
+        (9, !flat && !hopper_fits),
+        (10, silo.strakes.iter().any(|height| !(200..=3_000).contains(height))),
+        (
+            11,
+            silo.depths.iter().any(|depth| *depth > silo.foot())
+                || silo.depths.windows(2).any(|pair| pair[1] <= pair[0]),
+        ),
+        (12, silo.height() >= 10 * d_c),
+        (13, 2 * silo.height() < 3 * d_c),
+    ];
+    wrong.iter().find(|(_, holds)| *holds).map_or(0, |(refusal, _)| *refusal)
+}
