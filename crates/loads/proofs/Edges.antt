@@ -1,10 +1,9 @@
 -- Going down the wall strake by strake: the edge is the sum of the heights passed, and what is still to be written is the numbers
 -- of the strakes below it.
 -- Assumes nothing.
-use Prim.Native.Nat.{ℕ, zero, suc, _+_, _^_, _≤_, _<_}
+use Prim.Native.Nat.{ℕ, suc, _+_, _^_, _≤_, _<_}
 use mathlib.Core.Path.{_≡_, refl, ap, _∙_}
-use mathlib.Core.List.{List, [], _∷_}
-use native.Mathlib.Nat.{not-suc-le-zero, le-of-suc-le-suc}
+use mathlib.Core.List.{List, _∷_}
 use native.Mathlib.Numerals.{add-one}
 use native.Mathlib.Omega.{arith}
 use lib.ListN.{length, getD, take, drop, set, drop-of-length-le}
@@ -15,21 +14,9 @@ use Rattle.janssen.specs.Range.{InDepth}
 use Rattle.description.specs.declared.Wall.{Wall}
 use Rattle.description.specs.declared.WallState.{WallState}
 use Rattle.description.specs.Silo.{sum, wall-lowered}
+use Rattle.description.proofs.Sums.{sum-next, sum-under}
 use Rattle.rows.specs.Rows.{strake}
 use Rattle.loads.specs.Answers.{strake-numbers}
-
-pub edge-next : (l : List ℕ) (k : ℕ) → k < length l → sum (take (suc k) l) ≡ sum (take k l) + getD l k 0
-unfolding sum
-edge-next [] k h = absurd (not-suc-le-zero h)
-edge-next (x ∷ l) zero h = omega arith
-edge-next (x ∷ l) (suc k) h = omega (arith, edge-next l k (le-of-suc-le-suc h))
-
-pub edge-under : (l : List ℕ) (k n : ℕ) → k ≤ n → sum (take k l) ≤ sum (take n l)
-unfolding sum
-edge-under l zero n h = omega arith
-edge-under l (suc k) zero h = absurd (not-suc-le-zero h)
-edge-under [] (suc k) (suc n) h = omega arith
-edge-under (x ∷ l) (suc k) (suc n) h = omega (arith, edge-under l k n (le-of-suc-le-suc h))
 
 pub above-foot : {c : Section} {z foot : ℕ} → InDepth c foot → z ≤ foot → InDepth c z
 above-foot d h = record { slender = omega (arith, d .slender); wall = omega (arith, d .wall) }
@@ -70,12 +57,12 @@ step-down wall state next k count e n s h c =
     let l : next .edge ≡ state .edge + getD (wall .heights) k 0 =
     ap (λ (w : WallState). w .edge) e ∙ ap (λ (i : ℕ). state .edge + getD (wall .heights) i 0) n in
     let p : sum (take (k + 1) (wall .heights)) ≡ sum (take k (wall .heights)) + getD (wall .heights) k 0 =
-    rw add-one (edge-next (wall .heights) k (omega arith)) in
+    rw add-one (sum-next (wall .heights) k (omega arith)) in
     record {
       counted = ap (λ (w : WallState). w .next) e ∙ ap (λ (i : ℕ). i + 1) n;
       lower = l;
       passed = omega arith;
-      inside = omega (arith, edge-under (wall .heights) (k + 1) count (omega arith));
+      inside = omega (arith, sum-under (wall .heights) (k + 1) count (omega arith));
     }
 
 pub edge-fits : (wall : Wall) (state : WallState) (k count : ℕ) → state .next ≡ k → state .edge ≡ sum (take k (wall .heights))

@@ -15,7 +15,7 @@ use Rattle.description.proofs.Walls.{strakes-length}
 use Rattle.sheet.specs.Refusal.{length-due}
 use Rattle.sheet.proofs.Acceptance.{depths-length}
 use Rattle.rows.specs.Rows.{depth-row, ten, bottom-row, strake}
-use Rattle.loads.specs.Answers.{e-of, depth-rows, strake-numbers, answers}
+use Rattle.loads.specs.Answers.{e-of, depth-rows, strake-numbers, depths-part, bottom-part, strakes-part, answers}
 use Rattle.loads.specs.Claim.{part}
 
 pub length-depth-row : (c : Section) (p : Product) (e z : ℕ) → length (depth-row c p e z) ≡ 8
@@ -69,22 +69,13 @@ module _ (s : List ℕ) where
   abbrev p : Product
   p = silo-of s .product
 
-  abbrev pub depths-part : List ℕ
-  depths-part = depth-rows (silo-of s .section) (silo-of s .product) (e-of (silo-of s)) (depths-of s)
-
-  abbrev pub bottom-part : List ℕ
-  bottom-part = bottom-row (silo-of s .section) (silo-of s .product) (silo-of s .bottom .height) (silo-of s .bottom .run) (V-of s)
-
-  abbrev pub strakes-part : List ℕ
-  strakes-part = strake-numbers (silo-of s .section) (silo-of s .product) 0 (strakes-of s)
-
-  pub length-depths-part : length depths-part ≡ 8 * depth-count s
+  pub length-depths-part : length (depths-part s) ≡ 8 * depth-count s
   length-depths-part = length-depth-rows c p (e-of (silo-of s)) (depths-of s) ∙ ap (λ (n : ℕ). 8 * n) (depths-length s)
 
-  pub length-bottom-part : length bottom-part ≡ 10
+  pub length-bottom-part : length (bottom-part s) ≡ 10
   length-bottom-part = length-bottom-row c p (silo-of s .bottom .height) (silo-of s .bottom .run) (V-of s)
 
-  pub length-strakes-part : length strakes-part ≡ strake-count s
+  pub length-strakes-part : length (strakes-part s) ≡ strake-count s
   length-strakes-part = length-strake-numbers c p 0 (strakes-of s) ∙ strakes-length s
 
   pub length-answers : length (answers s) ≡ length-due s
@@ -95,11 +86,11 @@ module _ (s : List ℕ) where
   unfolding answers
   depth-at i h = depth-rows-part c p (e-of (silo-of s)) (depths-of s) _ i (omega (arith, depths-length s))
 
-  pub bottom-at : part (answers s) (8 * depth-count s) 10 ≡ bottom-part
+  pub bottom-at : part (answers s) (8 * depth-count s) 10 ≡ bottom-part s
   unfolding answers
   bottom-at =
-      part-later depths-part _ 0 10 (8 * depth-count s) (omega (arith, length-depths-part))
-      ∙ part-first bottom-part _ 10 length-bottom-part
+      part-later (depths-part s) _ 0 10 (8 * depth-count s) (omega (arith, length-depths-part))
+      ∙ part-first (bottom-part s) _ 10 length-bottom-part
 
   -- number n of the depth i
   pub depth-number-at : (i n : ℕ) → i < depth-count s → n < 8

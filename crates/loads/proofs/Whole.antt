@@ -18,8 +18,8 @@ use Rattle.sheet.proofs.Described.{d-c-most}
 use Rattle.rows.specs.declared.Basis.{Basis}
 use Rattle.rows.specs.Basis.{basis-for}
 use Rattle.rows.specs.Rows.{bottom-row}
-use Rattle.loads.specs.Answers.{e-of, basis-of, strake-numbers, answers}
-use Rattle.loads.proofs.Places.{depths-part, bottom-part, strakes-part, length-depths-part, length-bottom-part, length-answers}
+use Rattle.loads.specs.Answers.{e-of, basis-of, strake-numbers, depths-part, bottom-part, strakes-part, answers}
+use Rattle.loads.proofs.Places.{length-depths-part, length-bottom-part, length-answers}
 use Rattle.loads.proofs.Stores.{sets-append, sets-whole}
 use Rattle.loads.proofs.Demand.{in-range}
 use Rattle.loads.proofs.Depths.{basis-depth}

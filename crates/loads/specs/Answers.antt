@@ -29,12 +29,19 @@ unfoldable pub strake-numbers : Section → Product → ℕ → List ℕ → Lis
 strake-numbers c p from [] = []
 strake-numbers c p from (height ∷ l) = strake c p (from + height) ∷ strake-numbers c p (from + height) l
 
+-- the parts of a sheet's answer list
+abbrev pub depths-part : List ℕ → List ℕ
+depths-part s = depth-rows (silo-of s .section) (silo-of s .product) (e-of (silo-of s)) (depths-of s)
+
+abbrev pub bottom-part : List ℕ → List ℕ
+bottom-part s = bottom-row (silo-of s .section) (silo-of s .product) (silo-of s .bottom .height) (silo-of s .bottom .run) (V-of s)
+
+abbrev pub strakes-part : List ℕ → List ℕ
+strakes-part s = strake-numbers (silo-of s .section) (silo-of s .product) 0 (strakes-of s)
+
 -- the answer list: depths, bottom, strakes
 unfoldable pub answers : List ℕ → List ℕ
-answers s =
-    depth-rows (silo-of s .section) (silo-of s .product) (e-of (silo-of s)) (depths-of s)
-    ++ (bottom-row (silo-of s .section) (silo-of s .product) (silo-of s .bottom .height) (silo-of s .bottom .run) (V-of s)
-    ++ strake-numbers (silo-of s .section) (silo-of s .product) 0 (strakes-of s))
+answers s = depths-part s ++ (bottom-part s ++ strakes-part s)
 
 -- what is worked out once for the sheet
 abbrev pub basis-of : List ℕ → Basis

@@ -5,11 +5,11 @@ ghost use lib.ListN.{length, take};
 ghost use lib.Seq.{sets};
 ghost use Rattle.exponential.specs.Table.{table};
 ghost use Rattle.janssen.specs.Range.{InDepth};
-ghost use Rattle.description.specs.Silo.{silo-of, depths-of, depth-count, sum};
+ghost use Rattle.description.specs.Silo.{depth-count, sum};
 ghost use Rattle.sheet.specs.Refusal.{refusal-of, length-due};
 ghost use Rattle.rows.specs.Basis.{Sound};
 ghost use Rattle.rows.specs.Rows.{bottom-row};
-ghost use Rattle.loads.specs.Answers.{e-of, basis-of, depth-rows, strake-numbers, answers};
+ghost use Rattle.loads.specs.Answers.{basis-of, strake-numbers, depths-part, answers};
 use description::Bottom;
 use description::Wall;
 use description::WallState;
@@ -32,7 +32,7 @@ fn store(list: &mut [u32], at: usize, row: &[u32])
 // Eight numbers for each depth.
 fn fill_depths(entries: &[u64; 3393], sheet: &[u8], basis: Basis, list: &mut [u32])
     requires { ⌜ (now entries ≡ table) × (refusal-of (now sheet) ≡ 0) × (basis ≡ basis-of (now sheet)) × (8 * depth-count (now sheet) ≤ length (now list)) ⌝ }
-    ensures { λ _. ⌜ now (list .exit) ≡ sets (now (list .entry)) 0 (depth-rows (silo-of (now (sheet .entry)) .section) (silo-of (now (sheet .entry)) .product) (e-of (silo-of (now (sheet .entry)))) (depths-of (now (sheet .entry)))) ⌝ }
+    ensures { λ _. ⌜ now (list .exit) ≡ sets (now (list .entry)) 0 (depths-part (now (sheet .entry))) ⌝ }
 {
     let count = values::depth_count(sheet);
     let mut at = values::payload_place(sheet, 5);

@@ -5,7 +5,7 @@ ghost use Rattle.loads.specs.Answers.{loads-refusal, left-by};
 ghost use Rattle.loads.specs.Claim.{Claim};
 use description::values;
 
-pub mod fill; // the answer list, part by part
+mod fill; // the answer list, part by part
 
 // The load call: 0 with the list filled, or the number of the first refusal with the list as it was.
 pub fn loads(sheet: &[u8], answers: &mut [u32]) -> u32

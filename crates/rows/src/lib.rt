@@ -45,20 +45,20 @@ fn eight_numbers(filling: FillingLoads, factor: u64, e: u64, d: u64, z: u32) -> 
     requires { ⌜ (filling .horizontal .0 < 2 ^ 25) × (filling .«wall_friction» .0 < 2 ^ 25) × (factor ≤ 200) × (0 < d) × (d ≤ 50000) × (4 * e ≤ d) ⌝ }
     ensures { λ r. ⌜ r ≡ eight factor e d z (filling .horizontal .0) (filling .«wall_friction» .0) (filling .vertical .0) (filling .«wall_load» .0) ⌝ }
 {
-    let filled = filling.horizontal;
-    let rubbed = filling.wall_friction;
-    let horizontal = discharge::horizontal_discharge(factor, filled);
-    let friction = discharge::friction_discharge(rubbed);
-    let patch = discharge::patch(e, d, horizontal);
+    let p_hf = filling.horizontal;
+    let p_wf = filling.wall_friction;
+    let p_he = discharge::horizontal_discharge(factor, p_hf);
+    let p_we = discharge::friction_discharge(p_wf);
+    let p_p = discharge::patch(e, d, p_he);
     [
         z,
-        filling.horizontal.0,
-        filling.wall_friction.0,
+        p_hf.0,
+        p_wf.0,
         filling.vertical.0,
         filling.wall_load.0,
-        horizontal.0,
-        friction.0,
-        patch.0,
+        p_he.0,
+        p_we.0,
+        p_p.0,
     ]
 }
 

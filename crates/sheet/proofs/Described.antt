@@ -13,8 +13,8 @@ use lib.Seq.{take-length}
 use Rattle.janssen.specs.Section.{side-a, side-b, d-c}
 use Rattle.description.specs.Silo.{section-of, product-sent, product-read, product-of, factor-read, strakes-of, strake-count, sum, V-of, h-of, edge-of, wall-of, wall-top, wall-lowered, wall-after}
 use Rattle.sheet.specs.Accepted.{Accepted, ProductRange}
-use Rattle.records.proofs.Tests.{absurd}
 use Rattle.description.proofs.Walls.{strakes-length}
+use Rattle.description.proofs.Sums.{sum-next, sum-take}
 
 -- sums of a list whose elements are at most m
 sum-most : (m : ℕ) (l : List ℕ) → ((i : ℕ) → i < length l → getD l i 0 ≤ m) → sum l ≤ m * length l
@@ -24,18 +24,6 @@ sum-most m (x ∷ l) h =
     let a = h 0 (omega arith) in
     let r = sum-most m l (λ i j. h (suc i) (omega arith)) in
     omega arith
-
-sum-next : (l : List ℕ) (k : ℕ) → k < length l → sum (take (suc k) l) ≡ sum (take k l) + getD l k 0
-unfolding sum
-sum-next [] k h = absurd (omega arith)
-sum-next (x ∷ l) zero h = omega arith
-sum-next (x ∷ l) (suc k) h = let r = sum-next l k (omega arith) in omega arith
-
-sum-take : (l : List ℕ) (k : ℕ) → sum (take k l) ≤ sum l
-unfolding sum
-sum-take l zero = omega arith
-sum-take [] (suc k) = omega arith
-sum-take (x ∷ l) (suc k) = let r = sum-take l k in omega arith
 
 -- C0 as it is read
 factor-range : (c : ℕ) → (c ≡ 0) ⊎ ((100 ≤ c) × (c ≤ 200)) → (100 ≤ factor-read c) × (factor-read c ≤ 200)
