@@ -1,5 +1,6 @@
 //! Reads a silo's description and prints its wall loads, or the refusal.
 
+mod c;
 mod description;
 mod silo;
 

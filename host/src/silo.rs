@@ -1,17 +1,6 @@
 //! The proved library's three functions behind safe Rust: slices in, enums out.
 
-mod c {
-    extern "C" {
-        pub fn silo_loads(
-            sheet: *const u8,
-            sheet_len: usize,
-            answers: *mut u32,
-            answers_len: usize,
-        ) -> u32;
-        pub fn silo_answers_length(sheet: *const u8, sheet_len: usize) -> u64;
-        pub fn silo_catalogue(row: u32, wall: u32, record: *mut u8, record_len: usize) -> u32;
-    }
-}
+use crate::c;
 
 /// Why a call was refused, by the number that the library gives it.
 #[derive(Clone, Copy, Debug, PartialEq, Eq)]

@@ -8,6 +8,7 @@
 //! of 4,000·f mm, f being the product of a row's two factors (4,140, 3,240 and 5,290 mm), z0 is 5 m for that row; so the library's
 //! pressure at 5,000·h/b mm has to lie from P·(K - 0.00005) to P·(K + 0.00005) + 2.
 
+use crate::cases;
 use crate::check::{self, expect, Tally};
 use crate::exact::{exponential, fraction, whole, Fraction, Real};
 use crate::formulas::{self, FRICTION, HORIZONTAL, VERTICAL};
@@ -45,16 +46,9 @@ pub fn run(tally: &mut Tally) {
     for (row, diameter, place, column) in rows {
         let silo = Silo {
             section: vec![diameter],
-            weight: 9_000,
-            ratio: 50,
-            friction: 40,
-            factor: 140,
-            e_i: 0,
-            e_o: 0,
-            hopper_height: 0,
-            run: 0,
             strakes: vec![2_500; 10],
             depths: TABLE.iter().map(|(tenths, _)| 500 * tenths).collect(),
+            ..cases::sample()
         };
         check::accepted(&silo, tally);
         let list = check::answers(&silo);

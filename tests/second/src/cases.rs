@@ -6,7 +6,7 @@ use crate::formulas;
 use crate::sheet::{parse, Silo};
 
 /// Circle 5,000, γ 9,000, Ks 50, μ 40, C0 140, e 0, flat; five strakes of 2,000; depths 0 and 5,000.
-fn sample() -> Silo {
+pub fn sample() -> Silo {
     Silo {
         section: vec![5_000],
         weight: 9_000,

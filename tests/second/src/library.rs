@@ -1,19 +1,7 @@
 //! The library's functions, called with guards round every list that they may write.
 
+use crate::c;
 use crate::check::expect;
-
-mod c {
-    extern "C" {
-        pub fn silo_loads(
-            sheet: *const u8,
-            sheet_len: usize,
-            answers: *mut u32,
-            answers_len: usize,
-        ) -> u32;
-        pub fn silo_answers_length(sheet: *const u8, sheet_len: usize) -> u64;
-        pub fn silo_catalogue(row: u32, wall: u32, record: *mut u8, record_len: usize) -> u32;
-    }
-}
 
 const GUARD: usize = 8;
 /// What a list holds before a call.

@@ -3,6 +3,8 @@
 //! For each accepted sheet: filling pressures and P_w inside their bands, each load made from filling equal to its formula over the
 //! filling pressures and inside its allowance, nothing falling with depth. For each refused one: its number, and the list untouched.
 
+#[path = "../../../host/src/c.rs"]
+mod c;
 mod caquot;
 mod cases;
 mod catalogue;
