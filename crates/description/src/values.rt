@@ -12,14 +12,14 @@ use janssen::Product;
 use janssen::Section;
 use records::bytes::four_bytes;
 use records::bytes::two_bytes;
-use records::layout::record_place;
+use records::reader::read_record;
 
 // Where the payload of record k begins.
 pub fn payload_place(sheet: &[u8], k: usize) -> usize
     requires { ⌜ k < 6 ⌝ }
     ensures { λ r. ⌜ (r ≡ payload (now (sheet .entry)) k) × (r < 500000) ⌝ }
 {
-    record_place(sheet, k) + 4
+    read_record(sheet, k).start
 }
 
 // The bytes in the payload of record k.
@@ -27,15 +27,16 @@ pub fn payload_bytes(sheet: &[u8], k: usize) -> u64
     requires { ⌜ k < 6 ⌝ }
     ensures { λ r. ⌜ (r ≡ payload-length (now (sheet .entry)) k) × (r < 65536) ⌝ }
 {
-    two_bytes(sheet, record_place(sheet, k))
+    read_record(sheet, k).length
 }
 
 pub fn read_section(sheet: &[u8]) -> Section
     ensures { λ r. ⌜ (r ≡ section-of (now (sheet .entry))) × (side-a r < 4294967296) × (side-b r < 4294967296) ⌝ }
 {
-    let at = payload_place(sheet, 0);
+    let found = read_record(sheet, 0);
+    let at = found.start;
     let a = four_bytes(sheet, at);
-    if two_bytes(sheet, 2) == 1 {
+    if found.kind == 1 {
         Section::Circle(a)
     } else {
         Section::Rectangle(a, four_bytes(sheet, at + 4))

@@ -3,14 +3,14 @@ use Prim.Native.Nat.{ℕ, zero, suc, _+_, _-_, _≤_, _<_}
 use mathlib.Core.Bool.{true}
 use mathlib.Core.List.{List}
 use mathlib.Core.Logic.{_⊎_, inl, inr, ⊎-elim}
-use mathlib.Core.Path.{_≡_, refl}
+use mathlib.Core.Path.{_≡_, refl, sym}
 use native.Mathlib.Numerals.{add-one}
 use native.Mathlib.Omega.{arith}
 use borrow.Author.Tests.{eqb-true}
 use lib.Dec.{eqb}
 use lib.ListN.{length}
 use Rattle.records.specs.Rules.{both, must}
-use Rattle.records.specs.Format.{u16, place, due, step-of, record-rule, records-rule}
+use Rattle.records.specs.Format.{u16, place, payload, payload-length, due, step-of, record-rule, records-rule}
 use Rattle.records.proofs.Tests.{both-true, either-true, orElse-stop}
 
 pub step-positive : (t : ℕ) → 0 < t → t < 8 → 0 < step-of t
@@ -35,10 +35,18 @@ due-cases k t h =
 pub due-range : (k t : ℕ) → k < 6 → due k t ≡ true → (0 < t) × (t < 8)
 due-range k t l h = ⊎-elim (λ p. omega arith) (λ p. omega arith) (due-cases k t h)
 
+pub place-first : (s : List ℕ) → place s 0 ≡ 0
+unfolding place
+place-first s = refl
+
 -- the record after k begins behind its header and payload
 pub place-next : (s : List ℕ) (k : ℕ) → place s (k + 1) ≡ place s k + 4 + u16 s (place s k)
 unfolding place
 place-next s k = rw add-one refl
+
+pub payload-ends : (s : List ℕ) (k : ℕ) → payload s k + payload-length s k ≡ place s (k + 1)
+unfolding payload payload-length
+payload-ends s k = sym (place-next s k)
 
 pub records-step : (s : List ℕ) (k : ℕ) → k < 6 → record-rule s (place s k) k ≡ 0 → records-rule s (6 - k) k ≡ records-rule s (6 - (k + 1)) (k + 1)
 unfolding records-rule

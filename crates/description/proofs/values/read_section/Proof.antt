@@ -2,21 +2,17 @@
 use mathlib.Core.Path.{sym, _∙_}
 use native.Mathlib.Omega.{arith}
 use Rattle.janssen.specs.Section.{side-a, side-b}
-use Rattle.records.specs.Format.{kind, place}
 use Rattle.description.specs.Silo.{section-of}
 use borrow.Author.Tests.{eq-eqb, ne-eqb}
 use borrow.Author.Needs.{needs}
 use Rattle.description.proofs.values.read_section.Statement.{statement}
 use Rattle.description.proofs.values.read_section.Tie as tie
 
-payload-place-requires : tie.Need-payload-place-requires
-payload-place-requires c κs = search needs
+read-record-requires : tie.Need-read-record-requires
+read-record-requires c κs = search needs
 
 four-bytes-requires : tie.Need-four-bytes-requires
 four-bytes-requires c κs = search needs
-
-two-bytes-requires : tie.Need-two-bytes-requires
-two-bytes-requires c κs = search needs
 
 add-four-bytes : tie.Need-add-four-bytes
 add-four-bytes c = search needs
@@ -25,29 +21,20 @@ four-bytes-requires-2 : tie.Need-four-bytes-requires-2
 four-bytes-requires-2 c κs = search needs
 
 returns : tie.Need-returns
-unfolding section-of kind place side-a side-b
+unfolding section-of side-a side-b
 returns c = (
-  simp (eq-eqb _ _ (sym (c .before .two-bytes .ensures .0) ∙ c .if1 .taken), c .before .before .four-bytes .ensures .0, c .before .before .before .payload-place .ensures .0),
+  simp (eq-eqb _ _ (sym (c .before .before .before .read-record .ensures .1) ∙ c .if1 .taken), c .before .before .four-bytes .ensures .0, c .before .before .before .read-record .ensures .2),
   omega arith,
   omega arith,
 )
 
 returns-2 : tie.Need-returns-2
-unfolding section-of kind place side-a side-b
+unfolding section-of side-a side-b
 returns-2 c = (
-  simp (ne-eqb _ _ (λ z. c .before .if1 .left (c .before .before .two-bytes .ensures .0 ∙ z)), c .before .before .before .four-bytes .ensures .0, c .four-bytes2 .ensures .0, c .before .before .before .before .payload-place .ensures .0),
+  simp (ne-eqb _ _ (λ z. c .before .if1 .left (c .before .before .before .before .read-record .ensures .1 ∙ z)), c .before .before .before .four-bytes .ensures .0, c .four-bytes2 .ensures .0, c .before .before .before .before .read-record .ensures .2),
   omega arith,
   omega arith,
 )
 
 pub read-section-spec : {M : Type 1} → statement M
-read-section-spec =
-    tie.close
-    (tie.spec
-    payload-place-requires
-    four-bytes-requires
-    two-bytes-requires
-    add-four-bytes
-    four-bytes-requires-2
-    returns
-    returns-2)
+read-section-spec = tie.close (tie.spec read-record-requires four-bytes-requires add-four-bytes four-bytes-requires-2 returns returns-2)
