@@ -1,13 +1,17 @@
 -- Document 01, "Cases": those marked (m), as one statement. A circle of 5,000, γ 9,000, Ks 50, depths 0 and 5,000.
 use Prim.Native.Nat.{ℕ, _*_, _/_, _%_}
 use mathlib.Core.List.{List, [], _∷_, _++_}
+use mathlib.Core.Logic.{_⊎_}
 use mathlib.Core.Path.{_≡_}
 use lib.ListN.{length}
+use Rattle.fraction.specs.Fraction.{whole}
 use Rattle.janssen.specs.Section.{d-c}
 use Rattle.janssen.specs.declared.Section.the-variants.{Circle}
 use Rattle.janssen.specs.declared.Product.{Product}
 use Rattle.janssen.specs.Filling.{P}
-use Rattle.janssen.specs.Filling.Kind.{horizontal}
+use Rattle.janssen.specs.Filling.Kind.{horizontal, vertical, wall-friction}
+use Rattle.janssen.specs.Band.{FillingBand, WallLoadBand}
+use Rattle.discharge.specs.Discharge.{p-he, p-we, p-p}
 use Rattle.records.specs.Format.{layout-rule}
 use Rattle.description.specs.Silo.{section-of, product-sent, product-of, eccentricities-of, bottom-of, strakes-of, depths-of, V-of, h-of}
 use Rattle.rows.specs.Rows.{depth-row}
@@ -61,7 +65,16 @@ pub record Marked : Type 0 where
   pub deep-limit : P horizontal (Circle 5000) case-product .top ≡ 31250 * P horizontal (Circle 5000) case-product .bottom
   -- z = 0 gives 0
   pub surface : depth-row (Circle 5000) case-product 0 0 ≡ 0 ∷ 0 ∷ 0 ∷ 0 ∷ 0 ∷ 0 ∷ 0 ∷ 0 ∷ []
-  -- z = 5,000: p_hf 17,597, p_wf 7,345, p_vf 33,119, P_w 21,541, the first of each pair; p_he 24,636, p_we 8,080, p_p 4,928
+  -- z = 5,000, any number inside its band: p_hf 17,597 or 17,598; p_wf 7,345 or 7,346; p_vf 33,119 or 33,120; P_w 21,541 or 21,542
+  pub horizontal-pair : (p : ℕ) → FillingBand (whole 2) horizontal (Circle 5000) case-product 5000 p → (p ≡ 17597) ⊎ (p ≡ 17598)
+  pub friction-pair : (p : ℕ) → FillingBand (whole 2) wall-friction (Circle 5000) case-product 5000 p → (p ≡ 7345) ⊎ (p ≡ 7346)
+  pub vertical-pair : (p : ℕ) → FillingBand (whole 2) vertical (Circle 5000) case-product 5000 p → (p ≡ 33119) ⊎ (p ≡ 33120)
+  pub wall-load-pair : (w : ℕ) → WallLoadBand (Circle 5000) case-product 5000 w → (w ≡ 21541) ⊎ (w ≡ 21542)
+  -- p_hf 17,597 gives p_he 24,636 and p_p 4,928; p_wf 7,345 gives p_we 8,080
+  pub discharge : p-he 140 17597 ≡ 24636
+  pub patch : p-p 0 5000 24636 ≡ 4928
+  pub friction-discharge : p-we 7345 ≡ 8080
+  -- the row that the answer list has: of each pair the first
   pub middle : depth-row (Circle 5000) case-product 0 5000 ≡ 5000 ∷ 17597 ∷ 7345 ∷ 33119 ∷ 21541 ∷ 24636 ∷ 8080 ∷ 4928 ∷ []
   -- h 7,500 accepted, 7,499 gives 13; 49,999 accepted, 50,000 gives 12
   pub h-7500 : (s : List ℕ) → UpToEleven s → h-of s ≡ 7500 → refusal-of s ≡ 0
