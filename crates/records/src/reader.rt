@@ -22,7 +22,14 @@ pub struct Record {
 // The record k, which begins at `at`.
 pub fn record_at(sheet: &[u8], at: usize, k: usize) -> Record
     requires { ⌜ (at < 1000000) × (k < 6) ⌝ }
-    ensures { λ r. ⌜ (r .place ≡ at) × (r .kind ≡ u16 (now (sheet .entry)) (at + 2)) × (r .start ≡ at + 4) × (r .length ≡ u16 (now (sheet .entry)) at) × (r .refusal ≡ record-rule (now (sheet .entry)) at k) × (r .length < 65536) ⌝ }
+    ensures { λ r. ⌜
+        (r .place ≡ at)
+        × (r .kind ≡ u16 (now (sheet .entry)) (at + 2))
+        × (r .start ≡ at + 4)
+        × (r .length ≡ u16 (now (sheet .entry)) at)
+        × (r .refusal ≡ record-rule (now (sheet .entry)) at k)
+        × (r .length < 65536)
+        ⌝ }
 {
     Record {
         place: at,
@@ -51,7 +58,14 @@ pub fn start<'a>(sheet: &'a [u8]) -> Reader<'a>
 // The record where the reader stands, which is the record k.
 pub fn current<'a>(r: Reader<'a>, k: usize) -> Record
     requires { ⌜ (r .at < 1000000) × (k < 6) ⌝ }
-    ensures { λ f. ⌜ (f .place ≡ r .entry .at) × (f .kind ≡ u16 (now (r .entry .sheet)) (r .entry .at + 2)) × (f .start ≡ r .entry .at + 4) × (f .length ≡ u16 (now (r .entry .sheet)) (r .entry .at)) × (f .refusal ≡ record-rule (now (r .entry .sheet)) (r .entry .at) k) × (f .length < 65536) ⌝ }
+    ensures { λ f. ⌜
+        (f .place ≡ r .entry .at)
+        × (f .kind ≡ u16 (now (r .entry .sheet)) (r .entry .at + 2))
+        × (f .start ≡ r .entry .at + 4)
+        × (f .length ≡ u16 (now (r .entry .sheet)) (r .entry .at))
+        × (f .refusal ≡ record-rule (now (r .entry .sheet)) (r .entry .at) k)
+        × (f .length < 65536)
+        ⌝ }
 {
     record_at(r.sheet, r.at, k)
 }
@@ -59,7 +73,11 @@ pub fn current<'a>(r: Reader<'a>, k: usize) -> Record
 // The reader past the record where it stands.
 pub fn next<'a>(r: Reader<'a>) -> Reader<'a>
     requires { ⌜ r .at < 1000000 ⌝ }
-    ensures { λ q. ⌜ (q .sheet ≡ r .entry .sheet) × (q .at ≡ r .entry .at + 4 + u16 (now (r .entry .sheet)) (r .entry .at)) × (q .at ≤ r .entry .at + 65539) ⌝ }
+    ensures { λ q. ⌜
+        (q .sheet ≡ r .entry .sheet)
+        × (q .at ≡ r .entry .at + 4 + u16 (now (r .entry .sheet)) (r .entry .at))
+        × (q .at ≤ r .entry .at + 65539)
+        ⌝ }
 {
     Reader {
         sheet: r.sheet,
@@ -70,7 +88,15 @@ pub fn next<'a>(r: Reader<'a>) -> Reader<'a>
 // The record k of a sheet.
 pub fn read_record(sheet: &[u8], k: usize) -> Record
     requires { ⌜ k < 6 ⌝ }
-    ensures { λ r. ⌜ (r .place ≡ place (now (sheet .entry)) k) × (r .kind ≡ kind (now (sheet .entry)) k) × (r .start ≡ payload (now (sheet .entry)) k) × (r .length ≡ payload-length (now (sheet .entry)) k) × (r .refusal ≡ record-rule (now (sheet .entry)) (place (now (sheet .entry)) k) k) × (r .start < 500000) × (r .length < 65536) ⌝ }
+    ensures { λ r. ⌜
+        (r .place ≡ place (now (sheet .entry)) k)
+        × (r .kind ≡ kind (now (sheet .entry)) k)
+        × (r .start ≡ payload (now (sheet .entry)) k)
+        × (r .length ≡ payload-length (now (sheet .entry)) k)
+        × (r .refusal ≡ record-rule (now (sheet .entry)) (place (now (sheet .entry)) k) k)
+        × (r .start < 500000)
+        × (r .length < 65536)
+        ⌝ }
 {
     let mut reader = start(sheet);
     let mut passed: usize = 0;
