@@ -61,7 +61,7 @@ pub fn name_of(product: &Product) -> Option<String> {
 pub fn table() -> String {
     let mut page = String::from(
         "Table 7.1 of ENV 1991-4
-row  product      weight   ratio  friction  friction  factor
+row  product      weight   ratio  friction  friction  factor  note
                        γ      Ks         μ         μ      C0
                     N/m3            steel  concrete
 ",

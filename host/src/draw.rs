@@ -19,14 +19,14 @@ pub fn page(file: &str, silo: &Description, loads: &Loads, curves: &Loads) -> St
     let mut svg = Svg::default();
     let layout = Layout::of(silo);
     let name = Path::new(file).file_stem().map(|stem| stem.to_string_lossy().into_owned());
-    let name = name.filter(|name| name != "-").unwrap_or_else(|| "silo".to_string());
+    let name = name.unwrap_or_else(|| "silo".to_string());
     svg.text("start title", (40.0, 44.0), &name);
     svg.text("start note", (40.0, 66.0), &table::product(silo));
     svg.text("start note", (40.0, 83.0), &sizes(silo));
     values::draw(&mut svg, silo, &layout, curves);
     chart::draw(&mut svg, silo, &layout, curves);
     silo::draw(&mut svg, silo, &layout);
-    values::bottom(&mut svg, silo, loads);
+    values::bottom(&mut svg, silo, &layout, loads);
     let foot = "Wall loads by ENV 1991-4, rounded up; from the proved library. Silo to scale.";
     svg.text("start small", (40.0, HEIGHT - 12.0), foot);
     svg.page(&name)

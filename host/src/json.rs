@@ -49,15 +49,15 @@ pub fn loads(silo: &Description, loads: &Loads) -> String {
         object(&fields)
     });
     let bottom = match silo.is_flat() {
-        true => ("floor", object(&[("p", loads.floor().to_string())])),
+        true => ("floor", loads.floor().to_string()),
         false => ("hopper", lines(loads.hopper().map(|(k, normal, tangential)| {
             let [k, normal, tangential] = [k.to_string(), normal.to_string(), tangential.to_string()];
             object(&[("k", k), ("P_n", normal), ("P_t", tangential)])
         }))),
     };
     let strakes = silo.edges().zip(loads.strakes()).map(|((height, edge), load)| {
-        let fields = [("height", height.to_string()), ("lower_edge", edge.to_string())];
-        object(&[fields[0].clone(), fields[1].clone(), ("p_he", load.to_string())])
+        let [height, edge, load] = [height.to_string(), edge.to_string(), load.to_string()];
+        object(&[("height", height), ("lower_edge", edge), ("p_he", load)])
     });
     document(&[
         ("silo", description(silo)),

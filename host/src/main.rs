@@ -112,12 +112,13 @@ fn run(arguments: Arguments) -> Result<(Outcome, Option<String>), String> {
     if writes && output.is_none() {
         return Err(format!("silo {command} {file}: -o and the file to write are due"));
     }
-    let bytes = || read(file).map_err(|error| format!("{file}: {error}"));
+    let name = if file == "-" { "standard input" } else { file };
+    let bytes = || read(file).map_err(|error| format!("{name}: {error}"));
     let outcome = match command {
-        "loads" => commands::loads(file, &bytes()?, format.unwrap_or(Format::Table)),
-        "draw" => commands::draw(file, &bytes()?),
-        "sheet" => commands::sheet(file, &bytes()?),
-        "explain" => commands::explain(file, &bytes()?),
+        "loads" => commands::loads(name, &bytes()?, format.unwrap_or(Format::Table)),
+        "draw" => commands::draw(name, &bytes()?),
+        "sheet" => commands::sheet(name, &bytes()?),
+        "explain" => commands::explain(name, &bytes()?),
         _ => return Err(file_due(command)),
     };
     Ok((outcome, output))

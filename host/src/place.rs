@@ -185,11 +185,22 @@ fn bottom(silo: &Description) -> Vec<Place> {
     found
 }
 
+/// The first of each run of equal strakes.
 fn strakes(silo: &Description) -> Vec<Place> {
-    let limit = |(i, height): (usize, &u16)| {
-        length(Field::Strake(i), "the height", (*height).into(), 200, 3_000).place()
-    };
-    silo.strakes.iter().enumerate().filter_map(limit).collect()
+    let mut found = Vec::new();
+    let mut first = 0;
+    for run in silo.strakes.chunk_by(|a, b| a == b) {
+        let limit = length(Field::Strake(first), "the height", run[0].into(), 200, 3_000);
+        let last = first + run.len();
+        found.extend(limit.place().map(|mut place| {
+            if run.len() > 1 {
+                place.why += &format!(" (strakes {} to {last})", first + 1);
+            }
+            place
+        }));
+        first = last;
+    }
+    found
 }
 
 fn depths(silo: &Description) -> Vec<Place> {

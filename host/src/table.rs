@@ -64,8 +64,8 @@ pub fn product(silo: &Description) -> String {
 
 fn bottom(silo: &Description, loads: &Loads) -> String {
     if silo.is_flat() {
-        return format!("\nFlat floor, vertical (5.13)\n{}{}", line(["p"]), line(["Pa"]))
-            + &line([loads.floor()]);
+        let head = line(["floor"]) + &line(["Pa"]);
+        return format!("\nFlat floor, vertical (5.13)\n{head}{}", line([loads.floor()]));
     }
     let mut page = "\nHopper, k quarters of its slope up from the outlet: P_n normal, P_t friction\n".to_string();
     page += &(line(["k", "P_n", "P_t"]) + &line(["", "Pa", "Pa"]));

@@ -76,7 +76,7 @@ fn depth_axis(svg: &mut Svg, layout: &Layout) {
 /// Above the chart, in two columns.
 fn legend(svg: &mut Svg) {
     for (i, curve) in CURVES.iter().enumerate() {
-        let x = CHART.0 + 165.0 * (i / 2) as f64;
+        let x = CHART.0 + 180.0 * (i / 2) as f64;
         let y = 102.0 + 16.0 * (i % 2) as f64;
         svg.line(curve.class, (x, y - 4.0), (x + 30.0, y - 4.0));
         svg.text("start", (x + 36.0, y), &format!("{} {}", curve.name, curve.words));

@@ -9,8 +9,8 @@ const LOWEST: f64 = 706.0;
 /// The silo stands between these.
 const SILO: (f64, f64) = (118.0, 378.0);
 /// The columns of the strakes' table: strake, edge, p_hf, p_he, p_wf, p_we; each is flush right.
-pub const COLUMNS: [f64; 6] = [436.0, 484.0, 538.0, 592.0, 646.0, 700.0];
-pub const TABLE: (f64, f64) = (408.0, 706.0);
+pub const COLUMNS: [f64; 6] = [434.0, 480.0, 538.0, 598.0, 651.0, 704.0];
+pub const TABLE: (f64, f64) = (396.0, 709.0);
 /// The chart's pressures go from left to right.
 pub const CHART: (f64, f64) = (742.0, 1042.0);
 /// A wall drawn lower than this has a chart of its own scale.
@@ -53,18 +53,22 @@ impl Layout {
     }
 }
 
-/// Rows moved apart to stand at least `LINE` from each other, in the same order, none below `last`.
+/// Rows moved apart as little as is needed to stand at least `LINE` from each other, in the same order, between the brim and
+/// `last`: rows that are too near share their mean place.
 pub fn apart(rows: &[f64], last: f64) -> Vec<f64> {
-    let mut moved = rows.to_vec();
-    for i in 1..moved.len() {
-        moved[i] = moved[i].max(moved[i - 1] + LINE);
+    let mut groups: Vec<(f64, usize)> = Vec::new();
+    for (i, row) in rows.iter().enumerate() {
+        let mut group = (row - LINE * i as f64, 1);
+        while let Some((mean, count)) = groups.pop_if(|before| before.0 > group.0) {
+            let total = mean * count as f64 + group.0 * group.1 as f64;
+            group = (total / (count + group.1) as f64, count + group.1);
+        }
+        groups.push(group);
     }
-    let mut limit = last;
-    for row in moved.iter_mut().rev() {
-        *row = row.min(limit);
-        limit = *row - LINE;
-    }
-    moved
+    let highest = last - LINE * (rows.len() - 1) as f64;
+    let places = groups.iter().flat_map(|(mean, count)| vec![*mean; *count]);
+    let within = places.map(|place| place.min(highest).max(BRIM + 6.0));
+    within.enumerate().map(|(i, place)| place + LINE * i as f64).collect()
 }
 
 /// The least of 1, 2 and 5 times a power of ten that goes into `most` at most `parts` times.

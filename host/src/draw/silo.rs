@@ -62,9 +62,11 @@ fn quarters(svg: &mut Svg, outlet: (f64, f64), foot: (f64, f64)) {
         let part = f64::from(k) / 4.0;
         let point = (outlet.0 + (foot.0 - outlet.0) * part, outlet.1 + (foot.1 - outlet.1) * part);
         svg.line("frame", point, (point.0 + 5.0, point.1));
-        if room || k == 0 || k == 4 {
+        if room || k == 0 {
             let name = if k == 0 { "k = 0".to_string() } else { k.to_string() };
-            svg.text("start small", (point.0 + 8.0, point.1 + 3.5), &name);
+            // the last stands below the line to the wall's foot
+            let lower = if k == 4 { 11.0 } else { 3.5 };
+            svg.text("start small", (point.0 + 8.0, point.1 + lower), &name);
         }
     }
 }
@@ -73,7 +75,7 @@ fn width(svg: &mut Svg, silo: &Description, (left, right): (f64, f64)) {
     let y = BRIM - 34.0;
     svg.dimension((left, y), (right, y));
     for x in [left, right] {
-        svg.line("dimension", (x, y - 4.0), (x, BRIM - 4.0));
+        svg.line("dimension", (x, y - 4.0), (x, y + 4.0));
     }
     let text = match silo.section {
         Section::Circle(d) => format!("d {} mm", grouped(d.into())),
@@ -96,9 +98,8 @@ fn heights(svg: &mut Svg, silo: &Description, (left, foot, outlet): (f64, f64, f
         for y in [upper, lower] {
             svg.line("dimension", (x - 4.0, y), (left - 4.0, y));
         }
-        let middle = (x - 6.0, (upper + lower) / 2.0);
-        svg.text("end", middle, &format!("{name} {}", grouped(length)));
-        svg.text("end", (middle.0, middle.1 + 12.0), "mm");
+        let middle = (x - 6.0, (upper + lower) / 2.0 + 3.5);
+        svg.text("end", middle, &format!("{name} {} mm", grouped(length)));
     }
 }
 

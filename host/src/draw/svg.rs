@@ -21,7 +21,7 @@ line, polyline, polygon, path { fill: none; stroke: #222; stroke-width: 1 }
 .frame { stroke: #222; stroke-width: 1 }
 .horizontal { stroke: #1d5fa6; stroke-width: 1.8 } .friction { stroke: #b8431b; stroke-width: 1.8 }
 .filling { stroke-dasharray: 6 3.5 }
-circle { stroke: none } circle.horizontal { fill: #1d5fa6 } circle.friction { fill: #b8431b }
+circle.horizontal { fill: #1d5fa6; stroke: none } circle.friction { fill: #b8431b; stroke: none }
 .arrow { fill: #555; stroke: none }
 ";
 

@@ -2,9 +2,12 @@
 
 use super::chart::CURVES;
 use super::layout::{apart, grouped, Layout, BRIM, CHART, COLUMNS, TABLE};
-use super::svg::{Svg, HEIGHT};
+use super::svg::Svg;
 use crate::description::Description;
 use crate::library::Loads;
+
+/// P_n or P_t, then k = 0 to 4; each is flush right.
+const HOPPER_COLUMNS: [f64; 6] = [416.0, 480.0, 538.0, 596.0, 654.0, 712.0];
 
 pub fn draw(svg: &mut Svg, silo: &Description, layout: &Layout, curves: &Loads) {
     head(svg);
@@ -28,7 +31,11 @@ pub fn draw(svg: &mut Svg, silo: &Description, layout: &Layout, curves: &Loads) 
 }
 
 fn line(svg: &mut Svg, class: &str, y: f64, cells: &[String]) {
-    for (x, cell) in COLUMNS.iter().zip(cells) {
+    line_at(svg, class, y, &COLUMNS, cells);
+}
+
+fn line_at(svg: &mut Svg, class: &str, y: f64, columns: &[f64], cells: &[String]) {
+    for (x, cell) in columns.iter().zip(cells) {
         svg.text(class, (*x, y), cell);
     }
 }
@@ -42,25 +49,24 @@ fn head(svg: &mut Svg) {
     svg.line("dimension", (TABLE.0, BRIM - 4.0), (TABLE.1, BRIM - 4.0));
 }
 
-/// At the page's foot: the floor's load, or the hopper's.
-pub fn bottom(svg: &mut Svg, silo: &Description, loads: &Loads) {
-    let y = HEIGHT - 54.0;
+/// Below the strakes: the floor's load, or the hopper's.
+pub fn bottom(svg: &mut Svg, silo: &Description, layout: &Layout, loads: &Loads) {
+    let y = layout.chart_y(layout.wall) + 32.0;
     if silo.is_flat() {
         let text = format!("Flat floor, vertical load (5.13): {} Pa", grouped(loads.floor().into()));
         return svg.text("start note", (TABLE.0, y), &text);
     }
-    svg.text("start note", (TABLE.0, y), "Hopper, k quarters of its slope up from the outlet, Pa");
-    let columns = [0.0, 60.0, 120.0, 180.0, 240.0].map(|x| TABLE.0 + 410.0 + x);
-    let cells: Vec<[String; 3]> = loads
-        .hopper()
-        .map(|(k, normal, tangential)| [format!("k = {k}"), grouped(normal.into()), grouped(tangential.into())])
-        .collect();
-    let names = ["", "P_n normal", "P_t friction"];
-    for (row, name) in names.iter().enumerate() {
-        let y = y + 14.0 * row as f64;
-        svg.text("start", (TABLE.0 + 300.0, y), name);
-        for (x, column) in columns.iter().zip(&cells) {
-            svg.text(if row == 0 { "end head" } else { "end" }, (*x, y), &column[row]);
+    let title = "Hopper, Pa: P_n normal and P_t friction, at k quarters of the slope up from the outlet";
+    svg.text("start note", (TABLE.0, y), title);
+    let mut rows = ["", "P_n", "P_t"].map(|name| vec![name.to_string()]);
+    for (k, normal, tangential) in loads.hopper() {
+        let cells = [format!("k = {k}"), grouped(normal.into()), grouped(tangential.into())];
+        for (row, cell) in rows.iter_mut().zip(cells) {
+            row.push(cell);
         }
+    }
+    for (i, row) in rows.iter().enumerate() {
+        let class = if i == 0 { "end head" } else { "end" };
+        line_at(svg, class, y + 16.0 + 14.0 * i as f64, &HOPPER_COLUMNS, row);
     }
 }
