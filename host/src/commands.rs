@@ -71,7 +71,9 @@ pub fn loads(file: &str, bytes: &[u8], format: Format) -> Outcome {
 /// The sheet of a text. It is written even where the library refuses it.
 pub fn sheet(file: &str, bytes: &[u8]) -> Outcome {
     if source::is_sheet(bytes) {
-        return bad_use(format!("{file}: a sheet of bytes, or empty; silo sheet reads a silo's text\n"));
+        return bad_use(format!(
+            "{file}: a sheet of bytes, or empty; silo sheet reads a silo's text\n"
+        ));
     }
     match source::open(bytes) {
         Err(failure) => failed(file, &failure),
@@ -112,7 +114,8 @@ fn with_more_depths(silo: &Description) -> Description {
     const STEPS: u64 = 160;
     let wall = silo.wall_height();
     let steps = (0..=STEPS).map(|i| wall * i / STEPS);
-    let mut depths: Vec<u32> = steps.chain(silo.edges().map(|(_, edge)| edge)).map(|z| z as u32).collect();
+    let mut depths: Vec<u32> =
+        steps.chain(silo.edges().map(|(_, edge)| edge)).map(|z| z as u32).collect();
     depths.sort_unstable();
     depths.dedup();
     Description { depths, ..silo.clone() }

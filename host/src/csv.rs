@@ -33,7 +33,8 @@ pub fn loads(silo: &Description, loads: &Loads) -> String {
         page += &row("floor", 1, &[(0, silo.wall_height()), (FLOOR, loads.floor().into())]);
     } else {
         for (k, normal, tangential) in loads.hopper() {
-            page += &row("hopper", k, &[(FLOOR + 1, normal.into()), (FLOOR + 2, tangential.into())]);
+            page +=
+                &row("hopper", k, &[(FLOOR + 1, normal.into()), (FLOOR + 2, tangential.into())]);
         }
     }
     for (i, ((_, edge), load)) in silo.edges().zip(loads.strakes()).enumerate() {

@@ -36,7 +36,11 @@ fn sizes(silo: &Description) -> String {
     let section = match silo.section {
         Section::Circle(d) => format!("Circle d {} mm", grouped(d.into())),
         Section::Rectangle(a, b) => {
-            format!("Rectangle a {} mm, b {} mm, seen across the shorter side", grouped(a.into()), grouped(b.into()))
+            format!(
+                "Rectangle a {} mm, b {} mm, seen across the shorter side",
+                grouped(a.into()),
+                grouped(b.into())
+            )
         }
     };
     let bottom = match silo.is_flat() {

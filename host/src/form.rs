@@ -72,7 +72,8 @@ pub fn position(silo: &Description, field: Field) -> String {
         Section::Rectangle(..) => 8,
     };
     let payloads = [section, 10, 8, 8, 2 * silo.strakes.len()];
-    let start = |record: usize| HEADER + payloads[..record].iter().map(|n| n + HEADER).sum::<usize>();
+    let start =
+        |record: usize| HEADER + payloads[..record].iter().map(|n| n + HEADER).sum::<usize>();
     let (record, offset) = match field {
         Field::Diameter | Field::SideA => (0, 0),
         Field::SideB => (0, 4),

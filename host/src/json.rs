@@ -50,10 +50,14 @@ pub fn loads(silo: &Description, loads: &Loads) -> String {
     });
     let bottom = match silo.is_flat() {
         true => ("floor", loads.floor().to_string()),
-        false => ("hopper", lines(loads.hopper().map(|(k, normal, tangential)| {
-            let [k, normal, tangential] = [k.to_string(), normal.to_string(), tangential.to_string()];
-            object(&[("k", k), ("P_n", normal), ("P_t", tangential)])
-        }))),
+        false => (
+            "hopper",
+            lines(loads.hopper().map(|(k, normal, tangential)| {
+                let [k, normal, tangential] =
+                    [k.to_string(), normal.to_string(), tangential.to_string()];
+                object(&[("k", k), ("P_n", normal), ("P_t", tangential)])
+            })),
+        ),
     };
     let strakes = silo.edges().zip(loads.strakes()).map(|((height, edge), load)| {
         let [height, edge, load] = [height.to_string(), edge.to_string(), load.to_string()];

@@ -80,9 +80,7 @@ fn done(answer: u32) -> Result<(), Refusal> {
 /// Fills the answer list; on refusal it is as it was.
 pub fn fill_loads(sheet: &[u8], answers: &mut [u32]) -> Result<(), Refusal> {
     // SAFETY: each pointer comes with its own slice's length; `answers` is borrowed mutably, so it overlaps nothing.
-    done(unsafe {
-        c::silo_loads(sheet.as_ptr(), sheet.len(), answers.as_mut_ptr(), answers.len())
-    })
+    done(unsafe { c::silo_loads(sheet.as_ptr(), sheet.len(), answers.as_mut_ptr(), answers.len()) })
 }
 
 /// Writes the product record of a row of table 7.1; wall 0 is steel and wall 1 concrete. On refusal the buffer is as it was.

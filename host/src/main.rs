@@ -128,7 +128,9 @@ fn run(arguments: Arguments) -> Result<(Outcome, Option<String>), String> {
 fn file_due(command: &str) -> String {
     match COMMANDS.contains(&command) {
         true => format!("silo {command}: a file is due, such as samples/wheat-tower.silo"),
-        false => format!("{command}: unknown command; {}", suggestion(command, COMMANDS.into_iter())),
+        false => {
+            format!("{command}: unknown command; {}", suggestion(command, COMMANDS.into_iter()))
+        }
     }
 }
 

@@ -19,42 +19,93 @@ pub enum Name {
     Depths,
 }
 
-/// A name, ENV's symbol for it where it has one, and a line that shows its use. In the order of `Name`.
-const NAMES: [(Name, &str, &str, &str); 15] = [
-    (Name::Diameter, "diameter", "d", "diameter = 5000 mm"),
-    (Name::Sides, "sides", "", "sides = 4000 x 6000 mm"),
-    (Name::Product, "product", "", "product = wheat"),
-    (Name::Wall, "wall", "", "wall = steel"),
-    (Name::Weight, "weight", "gamma", "weight = 9.0 kN/m3"),
-    (Name::Ratio, "ratio", "Ks", "ratio = 0.55"),
-    (Name::Friction, "friction", "mu", "friction = 0.30"),
-    (Name::Factor, "factor", "C0", "factor = 1.30"),
-    (Name::FillingEccentricity, "filling eccentricity", "e_i", "filling eccentricity = 0 mm"),
-    (Name::OutletEccentricity, "outlet eccentricity", "e_o", "outlet eccentricity = 0 mm"),
-    (Name::Floor, "floor", "", "floor = flat"),
-    (Name::HopperHeight, "hopper height", "H", "hopper height = 3000 mm"),
-    (Name::HopperRun, "hopper run", "r", "hopper run = 1700 mm"),
-    (Name::Strakes, "strakes", "", "strakes = 8 x 1200 mm"),
-    (Name::Depths, "depths", "z", "depths = every 500 mm"),
+/// A name, ENV's symbol for it where it has one, a line that shows its use, and the library's limits.
+struct Row {
+    name: Name,
+    word: &'static str,
+    symbol: &'static str,
+    example: &'static str,
+    limits: &'static str,
+}
+
+const fn row(
+    name: Name,
+    word: &'static str,
+    symbol: &'static str,
+    example: &'static str,
+    limits: &'static str,
+) -> Row {
+    Row { name, word, symbol, example, limits }
+}
+
+const SIDE: &str = "500 to 50,000 mm";
+const ECCENTRICITY: &str = "at most a quarter of the diameter or shorter side";
+
+/// In the order of `Name`.
+const NAMES: [Row; 15] = [
+    row(Name::Diameter, "diameter", "d", "diameter = 5000 mm", SIDE),
+    row(Name::Sides, "sides", "", "sides = 4000 x 6000 mm", SIDE),
+    row(Name::Product, "product", "", "product = wheat", ""),
+    row(Name::Wall, "wall", "", "wall = steel", ""),
+    row(Name::Weight, "weight", "gamma", "weight = 9.0 kN/m3", "1,000 to 30,000 N/m3"),
+    row(Name::Ratio, "ratio", "Ks", "ratio = 0.55", "0.20 to 1.00"),
+    row(Name::Friction, "friction", "mu", "friction = 0.30", "0.10 to 1.00"),
+    row(Name::Factor, "factor", "C0", "factor = 1.30", "1.00 to 2.00, or blank"),
+    row(
+        Name::FillingEccentricity,
+        "filling eccentricity",
+        "e_i",
+        "filling eccentricity = 0 mm",
+        ECCENTRICITY,
+    ),
+    row(
+        Name::OutletEccentricity,
+        "outlet eccentricity",
+        "e_o",
+        "outlet eccentricity = 0 mm",
+        ECCENTRICITY,
+    ),
+    row(Name::Floor, "floor", "", "floor = flat", ""),
+    row(Name::HopperHeight, "hopper height", "H", "hopper height = 3000 mm", "at most 25,000 mm"),
+    row(
+        Name::HopperRun,
+        "hopper run",
+        "r",
+        "hopper run = 1700 mm",
+        "under half the diameter or shorter side",
+    ),
+    row(
+        Name::Strakes,
+        "strakes",
+        "",
+        "strakes = 8 x 1200 mm",
+        "1 to 24 strakes of 200 to 3,000 mm",
+    ),
+    row(Name::Depths, "depths", "z", "depths = every 500 mm", "1 to 200 depths, rising"),
 ];
 
 pub const COUNT: usize = NAMES.len();
 
 impl Name {
     pub fn word(self) -> &'static str {
-        NAMES[self as usize].1
+        NAMES[self as usize].word
     }
 
     pub fn example(self) -> &'static str {
-        NAMES[self as usize].3
+        NAMES[self as usize].example
+    }
+
+    pub fn limits(self) -> &'static str {
+        NAMES[self as usize].limits
     }
 
     /// A name in any case and spacing, or ENV's symbol to the letter.
     pub fn read(text: &str) -> Result<Name, String> {
         let plain = plain(text);
-        let known = NAMES.iter().find(|row| row.1 == plain || (row.2 == text && !text.is_empty()));
-        known.map(|row| row.0).ok_or_else(|| {
-            format!("{text}: unknown name; {}", suggestion(&plain, NAMES.iter().map(|row| row.1)))
+        let known = NAMES.iter().find(|row| row.word == plain || row.symbol == text);
+        known.map(|row| row.name).ok_or_else(|| {
+            let words = NAMES.iter().map(|row| row.word);
+            format!("{text}: unknown name; {}", suggestion(&plain, words))
         })
     }
 }

@@ -15,13 +15,8 @@ impl Decimal {
         if text.starts_with('-') {
             return Err(format!("{text}: negative; a sheet holds numbers from 0 up"));
         }
-        if let Some((before, after)) = text.split_once(',') {
-            let list = if after.contains(',') { String::new() } else { format!(", or {before}, {after} for two numbers") };
-            let whole = text.replace(',', "");
-            return Err(format!(
-                "{text}: a comma between digits; write {before}.{} for a decimal, {whole} for thousands{list}",
-                after.replace(',', "")
-            ));
+        if text.contains(',') {
+            return Err(comma(text));
         }
         let (whole, fraction) = text.split_once('.').unwrap_or((text, ""));
         let fraction = fraction.trim_end_matches('0');
@@ -52,6 +47,20 @@ impl Decimal {
     }
 }
 
+/// A comma between digits may be a decimal's, a thousand's, or a list's.
+fn comma(text: &str) -> String {
+    let groups: Vec<&str> = text.split(',').collect();
+    let whole = groups.concat();
+    let mend = match &groups[..] {
+        [before, after] if after.len() == 3 => {
+            format!("{whole}, or {before}.{after} for a decimal")
+        }
+        [before, after] => format!("{before}.{after}"),
+        _ => whole,
+    };
+    format!("{text}: a comma between digits; write {mend}")
+}
+
 enum Misfit {
     /// The whole number below.
     Finer(u64),
@@ -73,8 +82,7 @@ const LENGTH_UNITS: &[(&str, u32)] = &[("mm", 0), ("cm", 1), ("m", 3)];
 
 pub const LENGTH: Measure =
     Measure { name: "a length", units: LENGTH_UNITS, most: u32::MAX as u64, show: millimetres };
-pub const STRAKE: Measure =
-    Measure { name: "a strake's height", most: u16::MAX as u64, ..LENGTH };
+pub const STRAKE: Measure = Measure { name: "a strake's height", most: u16::MAX as u64, ..LENGTH };
 pub const WEIGHT: Measure = Measure {
     name: "a weight",
     units: &[("N/m3", 0), ("kN/m3", 3)],
@@ -120,18 +128,27 @@ impl Measure {
     pub fn power(&self, number: &str, zero: bool, unit: Option<&str>) -> Result<u32, String> {
         let Some(written) = unit else {
             return match self.has_unit() && !zero {
-                true => Err(format!("{number}: no unit; write {number} followed by {}", self.choice())),
+                true => {
+                    Err(format!("{number}: no unit; write {number} followed by {}", self.choice()))
+                }
                 false => Ok(self.units[0].1),
             };
         };
         if !self.has_unit() {
-            return Err(format!("{number} {written}: {} has no unit; write the number alone", self.name));
+            return Err(format!(
+                "{number} {written}: {} has no unit; write the number alone",
+                self.name
+            ));
         }
         let plain = written.replace('³', "3").replace('^', "");
         let known = self.units.iter().find(|(unit, _)| unit.eq_ignore_ascii_case(&plain));
         let known = known.map(|(_, power)| *power);
         known.ok_or_else(|| {
-            format!("{number} {written}: unknown unit {written}; {} is in {}", self.name, self.choice())
+            format!(
+                "{number} {written}: unknown unit {written}; {} is in {}",
+                self.name,
+                self.choice()
+            )
         })
     }
 

@@ -63,7 +63,8 @@ fn counts(silo: &Description) -> Vec<Place> {
         found.push(Place { field: Field::Strakes, why });
     }
     if !(1..=200).contains(&depths) {
-        let mut why = format!("{depths} depths; a sheet has 1 to 200; list fewer or take a larger step");
+        let mut why =
+            format!("{depths} depths; a sheet has 1 to 200; list fewer or take a larger step");
         let step = silo.wall_height().div_ceil(199);
         if step > 1 {
             why += &format!(" (every {step} mm or more)");
@@ -208,7 +209,9 @@ fn depths(silo: &Description) -> Vec<Place> {
     let mut found = Vec::new();
     for (i, depth) in silo.depths.iter().enumerate() {
         if u64::from(*depth) > foot {
-            let why = format!("below the wall's foot; it must be at most the sum of the strakes, {foot} mm");
+            let why = format!(
+                "below the wall's foot; it must be at most the sum of the strakes, {foot} mm"
+            );
             found.push(Place { field: Field::Depth(i), why });
         } else if i > 0 && *depth <= silo.depths[i - 1] {
             let why = format!("it follows {} mm; depths must rise", silo.depths[i - 1]);
@@ -223,8 +226,14 @@ fn shape(refusal: Refusal, silo: &Description) -> Vec<Place> {
     let (wall, hopper, height) = (silo.wall_height(), silo.hopper_height, silo.height());
     let made = format!("wall {wall} mm and hopper {hopper} mm make h = {height} mm");
     let limit = match refusal {
-        Refusal::SQUAT => format!("at least 1.5 times {width} mm, {} mm; add strakes or take a narrower silo", (3 * width).div_ceil(2)),
-        _ => format!("under 10 times {width} mm, {} mm; take off strakes or take a wider silo", 10 * width),
+        Refusal::SQUAT => format!(
+            "at least 1.5 times {width} mm, {} mm; add strakes or take a narrower silo",
+            (3 * width).div_ceil(2)
+        ),
+        _ => format!(
+            "under 10 times {width} mm, {} mm; take off strakes or take a wider silo",
+            10 * width
+        ),
     };
     vec![Place { field: Field::Strakes, why: format!("{made}; it must be {limit}") }]
 }

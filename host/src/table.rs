@@ -24,7 +24,8 @@ p_he horizontal, p_we wall friction, on discharge; p_p patch load on discharge
 ";
 
 pub fn loads(file: &str, silo: &Description, loads: &Loads) -> String {
-    let mut page = format!("{file}\n{}\nLoads on the wall at depth z below the brim\n", heading(silo));
+    let mut page =
+        format!("{file}\n{}\nLoads on the wall at depth z below the brim\n", heading(silo));
     page += &(line(COLUMNS.map(|(name, _)| name)) + &line(COLUMNS.map(|(_, unit)| unit)));
     for row in loads.rows() {
         page += &line(row);
@@ -59,7 +60,10 @@ pub fn product(silo: &Description) -> String {
         [product.ratio, product.friction, product.factor].map(|number| hundredths(number.into()));
     let factor = if product.factor == 0 { "blank, taken as 1.35" } else { &factor };
     let name = catalogue::name_of(product).map(|name| format!("{name}: ")).unwrap_or_default();
-    format!("{name}weight {} N/m3, ratio Ks {ratio}, friction mu {friction}, factor C0 {factor}", product.weight)
+    format!(
+        "{name}weight {} N/m3, ratio Ks {ratio}, friction mu {friction}, factor C0 {factor}",
+        product.weight
+    )
 }
 
 fn bottom(silo: &Description, loads: &Loads) -> String {
@@ -67,7 +71,9 @@ fn bottom(silo: &Description, loads: &Loads) -> String {
         let head = line(["floor"]) + &line(["Pa"]);
         return format!("\nFlat floor, vertical (5.13)\n{head}{}", line([loads.floor()]));
     }
-    let mut page = "\nHopper, k quarters of its slope up from the outlet: P_n normal, P_t friction\n".to_string();
+    let mut page =
+        "\nHopper, k quarters of its slope up from the outlet: P_n normal, P_t friction\n"
+            .to_string();
     page += &(line(["k", "P_n", "P_t"]) + &line(["", "Pa", "Pa"]));
     for (k, normal, tangential) in loads.hopper() {
         page += &line([k as u32, normal, tangential]);
@@ -76,7 +82,8 @@ fn bottom(silo: &Description, loads: &Loads) -> String {
 }
 
 fn strakes(silo: &Description, loads: &Loads) -> String {
-    let mut page = "\nStrakes, top first: horizontal pressure on discharge at the lower edge\n".to_string();
+    let mut page =
+        "\nStrakes, top first: horizontal pressure on discharge at the lower edge\n".to_string();
     page += &(line(["strake", "height", "edge", "p_he"]) + &line(["", "mm", "mm", "Pa"]));
     for (i, ((height, edge), load)) in silo.edges().zip(loads.strakes()).enumerate() {
         page += &line([i as u64 + 1, height.into(), edge, (*load).into()]);

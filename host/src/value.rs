@@ -77,7 +77,7 @@ pub fn quantity(value: &str, measure: &Measure) -> Result<u64, String> {
         [Token::Number(first), Token::Number(second), ..] => Err(format!(
             "{value}: two numbers where one is due; write {first}{second} without a space if it is one"
         )),
-        [Token::Number(_), ..] => Err(format!("{value}: more than one number with its unit")),
+        [Token::Number(_), ..] => Err(format!("{value}: not one number with its unit")),
         _ => Err(format!("{value}: not a number; {} is due", measure.name)),
     }
 }
@@ -137,7 +137,10 @@ pub fn list(value: &str, measure: &Measure, most: usize) -> Result<Vec<u64>, Str
     }
     let mut numbers = Vec::new();
     for item in items(tokens(value), value)? {
-        let number = one(item.number, item.unit, measure)?;
+        let number = one(item.number, item.unit, measure).map_err(|why| {
+            let comma = item.number.contains(',');
+            why + if comma { ", or a space after the comma for two numbers" } else { "" }
+        })?;
         let room = (most - numbers.len()) as u64;
         if item.count > room {
             return Err(format!("{value}: more than {most} numbers, which a sheet cannot hold"));
@@ -153,8 +156,8 @@ pub fn list(value: &str, measure: &Measure, most: usize) -> Result<Vec<u64>, Str
 /// Two sides, `A x B UNIT`.
 pub fn pair(value: &str, measure: &Measure) -> Result<(u64, u64), String> {
     let apart = |token| if token == Token::Times { Token::Separator } else { token };
-    match &items(tokens(value).into_iter().map(apart).collect(), value)?[..] {
-        [a, b] => Ok((one(a.number, a.unit, measure)?, one(b.number, b.unit, measure)?)),
+    match items(tokens(value).into_iter().map(apart).collect(), value).as_deref() {
+        Ok([a, b]) => Ok((one(a.number, a.unit, measure)?, one(b.number, b.unit, measure)?)),
         _ => Err(format!("{value}: two sides are due, such as 4000 x 6000 mm")),
     }
 }

@@ -25,7 +25,8 @@ fn written(arguments: &[&str], status: i32) -> Vec<u8> {
 }
 
 fn fed(arguments: &[&str], input: &[u8]) -> Output {
-    let pipes = silo(arguments).stdin(Stdio::piped()).stdout(Stdio::piped()).stderr(Stdio::piped()).spawn();
+    let pipes =
+        silo(arguments).stdin(Stdio::piped()).stdout(Stdio::piped()).stderr(Stdio::piped()).spawn();
     let mut child = pipes.expect("the program runs");
     child.stdin.take().expect("a pipe").write_all(input).expect("the input is read");
     child.wait_with_output().expect("the program ends")
@@ -35,12 +36,15 @@ fn scratch(name: &str) -> PathBuf {
     PathBuf::from(env!("CARGO_TARGET_TMPDIR")).join(name)
 }
 
-const SAMPLES: [(&str, i32); 4] = [("wheat-tower", 0), ("barley-bin", 0), ("cement", 0), ("blank-friction", 1)];
+const SAMPLES: [(&str, i32); 4] =
+    [("wheat-tower", 0), ("barley-bin", 0), ("cement", 0), ("blank-friction", 1)];
 
 #[test]
 fn samples_as_stored() {
     let folder = root().join("samples").read_dir().expect("samples");
-    let texts = folder.filter(|file| file.as_ref().is_ok_and(|file| file.path().extension().is_some_and(|e| e == "silo")));
+    let texts = folder.filter(|file| {
+        file.as_ref().is_ok_and(|file| file.path().extension().is_some_and(|e| e == "silo"))
+    });
     assert_eq!(texts.count(), SAMPLES.len());
     for (name, status) in SAMPLES {
         let file = format!("samples/{name}.silo");
@@ -49,7 +53,10 @@ fn samples_as_stored() {
     stored("samples/wheat-tower.csv", &written(&["loads", "samples/wheat-tower.silo", "--csv"], 0));
     stored("samples/barley-bin.csv", &written(&["loads", "--csv", "samples/barley-bin.silo"], 0));
     stored("samples/barley-bin.json", &written(&["loads", "samples/barley-bin.silo", "--json"], 0));
-    stored("samples/wheat-tower.json", &written(&["loads", "samples/wheat-tower.silo", "--json"], 0));
+    stored(
+        "samples/wheat-tower.json",
+        &written(&["loads", "samples/wheat-tower.silo", "--json"], 0),
+    );
     stored("docs/wheat-tower.svg", &written(&["draw", "samples/wheat-tower.silo", "-o", "-"], 0));
     stored("docs/barley-bin.svg", &written(&["draw", "samples/barley-bin.silo", "-o", "-"], 0));
 }
@@ -96,7 +103,8 @@ fn sheets_of_the_samples() {
         assert_eq!(output.status.code(), Some(status));
         let bytes = std::fs::read(sheet).expect(sheet);
         assert_eq!(bytes, std::fs::read(again).expect(again));
-        let [from_text, from_bytes] = [run(&["loads", &text, "--csv"]), fed(&["loads", "-", "--csv"], &bytes)];
+        let [from_text, from_bytes] =
+            [run(&["loads", &text, "--csv"]), fed(&["loads", "-", "--csv"], &bytes)];
         assert_eq!(from_text.stdout, from_bytes.stdout);
         assert_eq!(from_text.status, from_bytes.status);
     }
@@ -111,7 +119,11 @@ fn nothing_is_written_for_a_refused_drawing() {
 
 #[test]
 fn a_reader_that_goes_away_is_no_error() {
-    let mut child = silo(&["catalogue"]).stdout(Stdio::piped()).stderr(Stdio::piped()).spawn().expect("it runs");
+    let mut child = silo(&["catalogue"])
+        .stdout(Stdio::piped())
+        .stderr(Stdio::piped())
+        .spawn()
+        .expect("it runs");
     drop(child.stdout.take());
     let output = child.wait_with_output().expect("it ends");
     assert!(output.stderr.is_empty());

@@ -25,8 +25,21 @@ const TEXTS: [(u32, &str, &[(&str, &str)]); 36] = [
     (7, "weight in the other wrong unit", &[("weight", "9000 kN/m3")]),
     (7, "all four blank", &[("weight", ""), ("ratio", ""), ("friction", ""), ("factor", "")]),
     (8, "filling eccentricity", &[("filling eccentricity", "1251 mm")]),
-    (8, "both eccentricities", &[("e_i", "2 m"), ("e_o", "3 m"), ("filling eccentricity", "-"), ("outlet eccentricity", "-")]),
-    (8, "eccentricity over a quarter of the shorter side", &[("diameter", "-"), ("sides", "4 x 6 m"), ("outlet eccentricity", "1.2 m")]),
+    (
+        8,
+        "both eccentricities",
+        &[
+            ("e_i", "2 m"),
+            ("e_o", "3 m"),
+            ("filling eccentricity", "-"),
+            ("outlet eccentricity", "-"),
+        ],
+    ),
+    (
+        8,
+        "eccentricity over a quarter of the shorter side",
+        &[("diameter", "-"), ("sides", "4 x 6 m"), ("outlet eccentricity", "1.2 m")],
+    ),
     (9, "hopper without a run", &[("hopper run", "0 mm")]),
     (9, "hopper without an outlet", &[("hopper run", "2500 mm"), ("hopper height", "3000 mm")]),
     (9, "hopper too high", &[("hopper height", "25001 mm")]),
@@ -39,18 +52,47 @@ const TEXTS: [(u32, &str, &[(&str, &str)]); 36] = [
     (11, "depths that fall", &[("depths", "0, 5000, 4000, 6000 mm")]),
     (11, "a depth twice", &[("depths", "0, 5000, 5000 mm")]),
     (12, "too slender", &[("diameter", "1150 mm"), ("hopper run", "500 mm")]),
-    (12, "just too slender", &[("diameter", "1000 mm"), ("hopper run", "-"), ("hopper height", "-"), ("floor", "flat")]),
+    (
+        12,
+        "just too slender",
+        &[("diameter", "1000 mm"), ("hopper run", "-"), ("hopper height", "-"), ("floor", "flat")],
+    ),
     (13, "squat", &[("strakes", "2 x 2000 mm"), ("depths", "0 mm")]),
-    (13, "just too squat", &[("strakes", "2 x 3000, 1499 mm"), ("hopper run", "-"), ("hopper height", "-"), ("floor", "flat")]),
+    (
+        13,
+        "just too squat",
+        &[
+            ("strakes", "2 x 3000, 1499 mm"),
+            ("hopper run", "-"),
+            ("hopper height", "-"),
+            ("floor", "flat"),
+        ],
+    ),
     (13, "squat by the shorter side", &[("diameter", "-"), ("sides", "20 x 9 m")]),
     (6, "the first refusal counts", &[("diameter", "1 mm"), ("friction", ""), ("depths", "99 m")]),
-    (10, "a catalogue product", &[("weight", "-"), ("ratio", "-"), ("friction", "-"), ("factor", "-"), ("product", "maize"), ("wall", "concrete"), ("strakes", "5 x 20 cm, 19 cm")]),
+    (
+        10,
+        "a catalogue product",
+        &[
+            ("weight", "-"),
+            ("ratio", "-"),
+            ("friction", "-"),
+            ("factor", "-"),
+            ("product", "maize"),
+            ("wall", "concrete"),
+            ("strakes", "5 x 20 cm, 19 cm"),
+        ],
+    ),
 ];
 
 fn refused(page: &mut String, number: u32, title: &str, file: &str, bytes: &[u8]) {
     let outcome = commands::loads(file, bytes, Format::Table);
     assert_eq!(outcome.status, 1, "{title}");
-    assert!(outcome.messages.contains(&format!("refused, {number}:")), "{title}: {}", outcome.messages);
+    assert!(
+        outcome.messages.contains(&format!("refused, {number}:")),
+        "{title}: {}",
+        outcome.messages
+    );
     *page += &format!("== {number}: {title}\n{}\n", outcome.messages);
 }
 

@@ -70,7 +70,8 @@ fn random_bytes_never_stop_a_command() {
     for _ in 0..20_000 {
         let length = random.below(1200);
         let narrow = random.below(2) == 0;
-        let byte = |random: &mut Random| if narrow { random.below(9) as u8 } else { random.next() as u8 };
+        let byte =
+            |random: &mut Random| if narrow { random.below(9) as u8 } else { random.next() as u8 };
         let bytes: Vec<u8> = (0..length).map(|_| byte(&mut random)).collect();
         let commands = [
             commands::loads("any", &bytes, Format::Table),

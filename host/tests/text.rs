@@ -51,8 +51,22 @@ const BAD: [&[(&str, &str)]; 62] = [
     &[("ratio", "-"), ("factor", "-")],
     &[("product", "wheat")],
     &[("weight", "-"), ("ratio", "-"), ("friction", "-"), ("factor", "-")],
-    &[("weight", "-"), ("ratio", "-"), ("friction", "-"), ("factor", "-"), ("product", "weat"), ("wall", "steel")],
-    &[("weight", "-"), ("ratio", "-"), ("friction", "-"), ("factor", "-"), ("product", "gravel"), ("wall", "wood")],
+    &[
+        ("weight", "-"),
+        ("ratio", "-"),
+        ("friction", "-"),
+        ("factor", "-"),
+        ("product", "weat"),
+        ("wall", "steel"),
+    ],
+    &[
+        ("weight", "-"),
+        ("ratio", "-"),
+        ("friction", "-"),
+        ("factor", "-"),
+        ("product", "gravel"),
+        ("wall", "wood"),
+    ],
     &[("weight", "-"), ("ratio", "-"), ("friction", "-"), ("factor", "-"), ("product", "wheat")],
     &[("weight", "-"), ("ratio", "-"), ("friction", "-"), ("factor", "-"), ("wall", "steel")],
     &[("filling eccentricity", "-"), ("outlet eccentricity", "-")],
@@ -137,13 +151,18 @@ fn lengths_are_exact() {
         ("4294967295 mm", u32::MAX),
     ];
     for (written, expected) in lengths {
-        assert_eq!(described(&[("diameter", written)]).section, Section::Circle(expected), "{written}");
+        assert_eq!(
+            described(&[("diameter", written)]).section,
+            Section::Circle(expected),
+            "{written}"
+        );
     }
 }
 
 #[test]
 fn products_are_exact() {
-    let changes = [("weight", "8.765 kN/m³"), ("ratio", ".2"), ("friction", "655.35"), ("factor", "")];
+    let changes =
+        [("weight", "8.765 kN/m³"), ("ratio", ".2"), ("friction", "655.35"), ("factor", "")];
     let product = described(&changes).product;
     assert_eq!(product, Product { weight: 8765, ratio: 20, friction: 65535, factor: 0 });
     let four = ["weight", "ratio", "friction", "factor"].map(|name| (name, "-"));
@@ -191,7 +210,8 @@ fn editors_and_spacing_make_no_difference() {
 
 /// Numbers at and beside the library's limits, and any others.
 fn number(random: &mut Random) -> u32 {
-    let near: [u32; 16] = [0, 1, 9, 10, 20, 100, 135, 200, 500, 1000, 2000, 3000, 9000, 25_000, 50_000, 65_535];
+    let near: [u32; 16] =
+        [0, 1, 9, 10, 20, 100, 135, 200, 500, 1000, 2000, 3000, 9000, 25_000, 50_000, 65_535];
     match random.below(4) {
         0 => random.next() as u32,
         1 => random.of(&near).saturating_sub(1),
@@ -209,7 +229,9 @@ fn any_description(random: &mut Random) -> Description {
     let (ratio, friction, factor) = (half(), half(), half());
     let product = Product { weight: number(random), ratio, friction, factor };
     let product = match random.below(4) {
-        0 => Product::from_catalogue(random.below(10) as u32, random.below(2) as u32).expect("a row"),
+        0 => {
+            Product::from_catalogue(random.below(10) as u32, random.below(2) as u32).expect("a row")
+        }
         _ => product,
     };
     let flat = random.below(3) == 0;
@@ -232,6 +254,25 @@ fn any_description(random: &mut Random) -> Description {
     Description { depths: any_depths(random, &silo), ..silo }
 }
 
+/// Mostly accepted.
+fn usual_description(random: &mut Random) -> Description {
+    let strakes: Vec<u16> =
+        (0..4 + random.below(8)).map(|_| 1000 + random.below(1500) as u16).collect();
+    let product = Product::from_catalogue(random.below(10) as u32, random.below(2) as u32);
+    let (hopper_height, hopper_run) = random.of(&[(0, 0), (2000, 1100)]);
+    let silo = Description {
+        section: Section::Circle(2300 + random.below(2000) as u32),
+        product: product.expect("a row"),
+        filling_eccentricity: random.below(570) as u32,
+        outlet_eccentricity: 0,
+        hopper_height,
+        hopper_run,
+        depths: Vec::new(),
+        strakes,
+    };
+    Description { depths: any_depths(random, &silo), ..silo }
+}
+
 fn any_depths(random: &mut Random, silo: &Description) -> Vec<u32> {
     let wall = silo.wall_height() as u32;
     let count = 1 + random.below(200) as u32;
@@ -246,8 +287,11 @@ fn any_depths(random: &mut Random, silo: &Description) -> Vec<u32> {
 fn bytes_to_text_and_back_are_the_same() {
     let mut random = Random(20261115);
     let mut accepted = 0;
-    for _ in 0..20_000 {
-        let silo = any_description(&mut random);
+    for i in 0..20_000 {
+        let silo = match i % 2 {
+            0 => any_description(&mut random),
+            _ => usual_description(&mut random),
+        };
         let sheet = silo.to_bytes();
         assert_eq!(Description::from_bytes(&sheet).as_ref(), Ok(&silo));
         let outcome = commands::explain("any.sheet", &sheet);
@@ -262,19 +306,44 @@ fn bytes_to_text_and_back_are_the_same() {
 }
 
 const WORDS: [&str; 24] = [
-    "diameter", "sides", "product", "wall", "weight", "friction", "floor", "hopper run", "strakes", "depths", "every",
-    "strake edges", "mm", "kN/m3", " x ", " = ", "0.40", "99999999999", "1,5", "-", "\u{b3}", "#", "\n", "\u{feff}",
+    "diameter",
+    "sides",
+    "product",
+    "wall",
+    "weight",
+    "friction",
+    "floor",
+    "hopper run",
+    "strakes",
+    "depths",
+    "every",
+    "strake edges",
+    "mm",
+    "kN/m3",
+    " x ",
+    " = ",
+    "0.40",
+    "99999999999",
+    "1,5",
+    "-",
+    "\u{b3}",
+    "#",
+    "\n",
+    "\u{feff}",
 ];
 
-/// One to six damages: letters left out, exchanged or put in, words put in, lines doubled or left out.
+/// One to four damages: letters left out, exchanged or put in, words put in, lines doubled or left out.
 fn damaged(random: &mut Random, text: &str) -> String {
     let mut letters: Vec<char> = text.chars().collect();
-    for _ in 0..1 + random.below(6) {
+    for _ in 0..1 + random.below(4) {
         let at = random.below(letters.len().max(1)).min(letters.len());
         match random.below(7) {
             0 if at < letters.len() => drop(letters.remove(at)),
-            1 if at < letters.len() => letters[at] = random.of(&['0', '9', '.', ',', '=', 'x', ' ', '\n', 'é']),
-            2 => letters.insert(at, random.of(&['1', '-', '+', 'm', ';', '\t', '\r', '\u{2009}', '×'])),
+            1 if at < letters.len() => {
+                letters[at] = random.of(&['0', '9', '.', ',', '=', 'x', ' ', '\n', 'é'])
+            }
+            2 => letters
+                .insert(at, random.of(&['1', '-', '+', 'm', ';', '\t', '\r', '\u{2009}', '×'])),
             3 => drop(letters.splice(at..at, random.of(&WORDS).chars())),
             4 => letters.truncate(at),
             5 => {

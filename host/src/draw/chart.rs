@@ -13,7 +13,12 @@ pub struct Curve {
     class: &'static str,
 }
 
-const fn curve(place: usize, name: &'static str, words: &'static str, class: &'static str) -> Curve {
+const fn curve(
+    place: usize,
+    name: &'static str,
+    words: &'static str,
+    class: &'static str,
+) -> Curve {
     Curve { place, name, words, class }
 }
 

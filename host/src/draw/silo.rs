@@ -89,7 +89,8 @@ fn width(svg: &mut Svg, silo: &Description, (left, right): (f64, f64)) {
 
 fn heights(svg: &mut Svg, silo: &Description, (left, foot, outlet): (f64, f64, f64)) {
     let x = left - 16.0;
-    let parts = [("V", BRIM, foot, silo.wall_height()), ("H", foot, outlet, silo.hopper_height.into())];
+    let parts =
+        [("V", BRIM, foot, silo.wall_height()), ("H", foot, outlet, silo.hopper_height.into())];
     for (name, upper, lower, length) in parts {
         if length == 0 {
             continue;

@@ -78,7 +78,8 @@ impl Svg {
     }
 
     pub fn dot(&mut self, class: &str, (x, y): (f64, f64)) {
-        self.body += &format!("<circle class=\"{class}\" cx=\"{x:.1}\" cy=\"{y:.1}\" r=\"2.2\"/>\n");
+        self.body +=
+            &format!("<circle class=\"{class}\" cx=\"{x:.1}\" cy=\"{y:.1}\" r=\"2.2\"/>\n");
     }
 
     /// Text whose letters stand on `y`; the class says which end is at `x`.

@@ -53,10 +53,12 @@ fn head(svg: &mut Svg) {
 pub fn bottom(svg: &mut Svg, silo: &Description, layout: &Layout, loads: &Loads) {
     let y = layout.chart_y(layout.wall) + 32.0;
     if silo.is_flat() {
-        let text = format!("Flat floor, vertical load (5.13): {} Pa", grouped(loads.floor().into()));
+        let text =
+            format!("Flat floor, vertical load (5.13): {} Pa", grouped(loads.floor().into()));
         return svg.text("start note", (TABLE.0, y), &text);
     }
-    let title = "Hopper, Pa: P_n normal and P_t friction, at k quarters of the slope up from the outlet";
+    let title =
+        "Hopper, Pa: P_n normal and P_t friction, at k quarters of the slope up from the outlet";
     svg.text("start note", (TABLE.0, y), title);
     let mut rows = ["", "P_n", "P_t"].map(|name| vec![name.to_string()]);
     for (k, normal, tangential) in loads.hopper() {

@@ -24,13 +24,12 @@ impl Depths {
         }
         if let Some(step) = value.strip_prefix("every") {
             return match value::quantity(step.trim(), &LENGTH)? {
-                0 => Err(format!("{value}: a step of 0; write a step such as every 500 mm")),
+                0 => Err("a step of 0; write a step such as every 500 mm".to_string()),
                 step => Ok(Depths::Every(step as u32)),
             };
         }
         if !value.starts_with(|c: char| c.is_ascii_digit() || "+-.".contains(c)) {
-            let found = if value.is_empty() { "no value" } else { value };
-            return Err(format!("{found}: {WAYS}"));
+            return Err(format!("not depths; {WAYS}"));
         }
         let depths = value::list(value, &LENGTH, MOST_DEPTHS)?;
         Ok(Depths::List(depths.into_iter().map(|depth| depth as u32).collect()))
@@ -51,7 +50,8 @@ impl Depths {
                 Ok(steps.chain((foot % step > 0).then_some(foot)).collect())
             }
             _ => Err(format!(
-                "over {MOST_DEPTHS} depths down a wall of {foot} mm, more than a sheet can hold; the library takes 200"
+                "over {MOST_DEPTHS} depths down a wall of {foot} mm; write every {} mm or more",
+                foot.div_ceil(199)
             )),
         }
     }

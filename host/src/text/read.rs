@@ -30,6 +30,17 @@ impl Text {
     }
 }
 
+fn limits(name: Name) -> String {
+    match name.limits() {
+        "" => String::new(),
+        limits => format!("; it must be {limits}"),
+    }
+}
+
+fn joined(names: &[Name]) -> String {
+    names.iter().map(|name| name.word()).collect::<Vec<&str>>().join(" and ")
+}
+
 /// The text's lines by name, and what is wrong so far.
 struct Reader<'a> {
     entries: [Option<(usize, &'a str)>; name::COUNT],
@@ -68,6 +79,9 @@ impl<'a> Reader<'a> {
             let hint = "a line is name = value unit, such as diameter = 5000 mm";
             return self.fail(Some(line), format!("{content}: no equals sign; {hint}"));
         };
+        if word.trim().is_empty() {
+            return self.fail(Some(line), format!("{content}: no name before the equals sign"));
+        }
         match Name::read(word.trim()) {
             Err(why) => self.fail(Some(line), why),
             Ok(name) => match self.entries[name as usize] {
@@ -88,13 +102,17 @@ impl<'a> Reader<'a> {
     fn take<T>(&mut self, name: Name, read: impl FnOnce(&str) -> Result<T, String>) -> Option<T> {
         let Some((line, value)) = self.entries[name as usize] else {
             let (word, example) = (name.word(), name.example());
-            self.fail(None, format!("no line for {word}; add a line such as {example}"));
+            let message =
+                format!("no line for {word}; add a line such as {example}{}", limits(name));
+            self.fail(None, message);
             return None;
         };
         match read(value) {
             Ok(read) => Some(read),
             Err(why) => {
-                self.fail(Some(line), format!("{}: {why}", name.word()));
+                let written = format!("{} = {value}", name.word());
+                let why = why.strip_prefix(value).map_or(&*why, |why| why.trim_start_matches(": "));
+                self.fail(Some(line), format!("{}: {why}{}", written.trim_end(), limits(name)));
                 None
             }
         }
@@ -114,21 +132,25 @@ impl<'a> Reader<'a> {
         T::try_from(number).ok()
     }
 
+    /// The first of some names that has a line, and that line.
+    fn first(&self, names: &[Name]) -> Option<(usize, Name)> {
+        names.iter().find_map(|name| self.entries[*name as usize].map(|(line, _)| (line, *name)))
+    }
+
     /// Of two ways to say the same, an error where the text has both or neither.
-    fn excludes(&mut self, one: &[Name], other: &[Name]) -> bool {
-        let first = |names: &[Name]| names.iter().copied().find(|name| self.has(*name));
-        match (first(one), first(other)) {
+    fn either(&mut self, one: &[Name], other: &[Name]) -> bool {
+        match (self.first(one), self.first(other)) {
             (Some(a), Some(b)) => {
-                let [a, b] = [a, b].map(|name| (self.entries[name as usize].map(|e| e.0), name.word()));
                 let (before, after) = if a.0 < b.0 { (a, b) } else { (b, a) };
-                let message = format!("{} beside {}: leave out one of the two", after.1, before.1);
-                self.fail(after.0, message);
+                let beside = format!("{} beside {}", after.1.word(), before.1.word());
+                let choice = format!("{}, or {}", joined(one), joined(other));
+                self.fail(Some(after.0), format!("{beside}: write {choice}"));
                 false
             }
             (None, None) => {
                 let (a, b) = (one[0], other[0]);
                 let words = format!("{} or {}", a.word(), b.word());
-                let examples = format!("{}, or {}", a.example(), b.example());
+                let examples = format!("{} or {}", a.example(), b.example());
                 self.fail(None, format!("no line for {words}; add a line such as {examples}"));
                 false
             }
@@ -158,7 +180,7 @@ impl<'a> Reader<'a> {
     }
 
     fn section(&mut self) -> Option<Section> {
-        if !self.excludes(&[Name::Diameter], &[Name::Sides]) {
+        if !self.either(&[Name::Diameter], &[Name::Sides]) {
             return None;
         }
         if self.has(Name::Diameter) {
@@ -170,7 +192,7 @@ impl<'a> Reader<'a> {
 
     fn product(&mut self) -> Option<Product> {
         let properties = [Name::Weight, Name::Ratio, Name::Friction, Name::Factor];
-        if !self.excludes(&[Name::Product, Name::Wall], &properties) {
+        if !self.either(&[Name::Product, Name::Wall], &properties) {
             return None;
         }
         if self.has(Name::Product) || self.has(Name::Wall) {
@@ -183,20 +205,22 @@ impl<'a> Reader<'a> {
             });
         }
         let weight = self.property(Name::Weight, &WEIGHT);
-        let [ratio, friction, factor] = [Name::Ratio, Name::Friction, Name::Factor]
-            .map(|name| self.property(name, &RATIO));
+        let [ratio, friction, factor] =
+            [Name::Ratio, Name::Friction, Name::Factor].map(|name| self.property(name, &RATIO));
         Some(Product { weight: weight?, ratio: ratio?, friction: friction?, factor: factor? })
     }
 
     /// Hopper height and run, both 0 for a flat floor.
     fn bottom(&mut self) -> Option<(u32, u32)> {
-        if !self.excludes(&[Name::Floor], &[Name::HopperHeight, Name::HopperRun]) {
+        if !self.either(&[Name::Floor], &[Name::HopperHeight, Name::HopperRun]) {
             return None;
         }
         if self.has(Name::Floor) {
             return self.take(Name::Floor, |value| match name::plain(value).as_str() {
                 "flat" => Ok((0, 0)),
-                _ => Err(format!("{value}: write flat, or hopper height and hopper run in two lines")),
+                _ => Err(format!(
+                    "{value}: write flat, or hopper height and hopper run in two lines"
+                )),
             });
         }
         let height = self.number(Name::HopperHeight, &LENGTH);
@@ -205,7 +229,8 @@ impl<'a> Reader<'a> {
     }
 
     fn strakes(&mut self) -> Option<Vec<u16>> {
-        let heights = self.take(Name::Strakes, |value| value::list(value, &STRAKE, MOST_STRAKES))?;
+        let heights =
+            self.take(Name::Strakes, |value| value::list(value, &STRAKE, MOST_STRAKES))?;
         heights.into_iter().map(|height| height.try_into().ok()).collect()
     }
 
