@@ -1,6 +1,7 @@
 //! The records of a sheet of bytes: where a record or a number stands, and where the form goes wrong.
 
 use crate::description::{u16_at, Description, Section, HEADER};
+use crate::name::Name;
 use crate::place::Field;
 
 /// The records due, with the kinds that each may have.
@@ -74,21 +75,21 @@ pub fn position(silo: &Description, field: Field) -> String {
     let payloads = [section, 10, 8, 8, 2 * silo.strakes.len()];
     let start =
         |record: usize| HEADER + payloads[..record].iter().map(|n| n + HEADER).sum::<usize>();
-    let (record, offset) = match field {
-        Field::Diameter | Field::SideA => (0, 0),
-        Field::SideB => (0, 4),
-        Field::Weight => (1, 0),
-        Field::Ratio => (1, 4),
-        Field::Friction => (1, 6),
-        Field::Factor => (1, 8),
-        Field::FillingEccentricity => (2, 0),
-        Field::OutletEccentricity => (2, 4),
-        Field::HopperHeight => (3, 0),
-        Field::HopperRun => (3, 4),
-        Field::Strakes => (4, 0),
-        Field::Strake(i) => (4, 2 * i),
-        Field::Depths => (5, 0),
-        Field::Depth(i) => (5, 4 * i),
+    let (record, offset) = match (field, field.name()) {
+        (Field::Strake(i), _) => (4, 2 * i),
+        (Field::Depth(i), _) => (5, 4 * i),
+        (Field::SideB, _) => (0, 4),
+        (_, Name::Diameter | Name::Sides) => (0, 0),
+        (_, Name::Product | Name::Wall | Name::Weight) => (1, 0),
+        (_, Name::Ratio) => (1, 4),
+        (_, Name::Friction) => (1, 6),
+        (_, Name::Factor) => (1, 8),
+        (_, Name::FillingEccentricity) => (2, 0),
+        (_, Name::OutletEccentricity) => (2, 4),
+        (_, Name::Floor | Name::HopperHeight) => (3, 0),
+        (_, Name::HopperRun) => (3, 4),
+        (_, Name::Strakes) => (4, 0),
+        (_, Name::Depths) => (5, 0),
     };
     let byte = start(record) + offset;
     format!("byte {byte}, record {} ({})", record + 1, RECORDS[record].0)

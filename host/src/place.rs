@@ -8,20 +8,11 @@ use crate::number::{hundredths, millimetres, newtons};
 /// A number of a sheet, or a whole list.
 #[derive(Clone, Copy, Debug, PartialEq, Eq)]
 pub enum Field {
-    Diameter,
+    /// What a line of the text says.
+    Line(Name),
     SideA,
     SideB,
-    Weight,
-    Ratio,
-    Friction,
-    Factor,
-    FillingEccentricity,
-    OutletEccentricity,
-    HopperHeight,
-    HopperRun,
-    Strakes,
     Strake(usize),
-    Depths,
     Depth(usize),
 }
 
@@ -60,7 +51,7 @@ fn counts(silo: &Description) -> Vec<Place> {
     let (strakes, depths) = (silo.strakes.len(), silo.depths.len());
     if !(1..=24).contains(&strakes) {
         let why = format!("{strakes} strakes; a wall has 1 to 24; take higher strakes");
-        found.push(Place { field: Field::Strakes, why });
+        found.push(Place { field: Field::Line(Name::Strakes), why });
     }
     if !(1..=200).contains(&depths) {
         let mut why =
@@ -69,7 +60,7 @@ fn counts(silo: &Description) -> Vec<Place> {
         if step > 1 {
             why += &format!(" (every {step} mm or more)");
         }
-        found.push(Place { field: Field::Depths, why });
+        found.push(Place { field: Field::Line(Name::Depths), why });
     }
     found
 }
@@ -112,7 +103,9 @@ fn length(field: Field, name: &'static str, number: u64, from: u64, to: u64) -> 
 fn section(silo: &Description) -> Vec<Place> {
     let side = |field, name, number: u32| length(field, name, number.into(), 500, 50_000).place();
     match silo.section {
-        Section::Circle(d) => side(Field::Diameter, "the diameter", d).into_iter().collect(),
+        Section::Circle(d) => {
+            side(Field::Line(Name::Diameter), "the diameter", d).into_iter().collect()
+        }
         Section::Rectangle(a, b) => {
             let sides = [side(Field::SideA, "side a", a), side(Field::SideB, "side b", b)];
             sides.into_iter().flatten().collect()
@@ -132,7 +125,7 @@ fn product(silo: &Description) -> Vec<Place> {
         slip: 100,
     };
     let weight = Limit {
-        field: Field::Weight,
+        field: Field::Line(Name::Weight),
         name: "the weight",
         number: product.weight.into(),
         from: 1_000,
@@ -140,12 +133,12 @@ fn product(silo: &Description) -> Vec<Place> {
         show: newtons,
         slip: 1000,
     };
-    let factor = ratio(Field::Factor, "the factor C0", product.factor, 100, 200);
+    let factor = ratio(Field::Line(Name::Factor), "the factor C0", product.factor, 100, 200);
     let blank = product.factor == 0;
     let limits = [
         Some(weight),
-        Some(ratio(Field::Ratio, "the ratio Ks", product.ratio, 20, 100)),
-        Some(ratio(Field::Friction, "wall friction", product.friction, 10, 100)),
+        Some(ratio(Field::Line(Name::Ratio), "the ratio Ks", product.ratio, 20, 100)),
+        Some(ratio(Field::Line(Name::Friction), "wall friction", product.friction, 10, 100)),
         (!blank).then_some(factor),
     ];
     limits.into_iter().flatten().filter_map(|limit| limit.place()).collect()
@@ -154,8 +147,8 @@ fn product(silo: &Description) -> Vec<Place> {
 fn eccentricities(silo: &Description) -> Vec<Place> {
     let most = silo.section.shorter_side() / 4;
     let of = [
-        (Field::FillingEccentricity, silo.filling_eccentricity),
-        (Field::OutletEccentricity, silo.outlet_eccentricity),
+        (Field::Line(Name::FillingEccentricity), silo.filling_eccentricity),
+        (Field::Line(Name::OutletEccentricity), silo.outlet_eccentricity),
     ];
     let over = of.into_iter().filter(|(_, e)| *e > most);
     let why = format!("it must be at most a quarter of the diameter or shorter side, {most} mm");
@@ -170,18 +163,21 @@ fn bottom(silo: &Description) -> Vec<Place> {
     let mut add = |field, why| found.push(Place { field, why });
     if run == 0 {
         let why = "the run is 0; it must be at least 1 mm, or write floor = flat without a hopper";
-        add(Field::HopperRun, why.to_string());
+        add(Field::Line(Name::HopperRun), why.to_string());
     }
     if run > 0 && 2 * run >= width {
         let limit = format!("twice the run must be under the diameter or shorter side, {width} mm");
-        add(Field::HopperRun, format!("{limit}, so that an outlet is left"));
+        add(Field::Line(Name::HopperRun), format!("{limit}, so that an outlet is left"));
     }
     if height > 25_000 {
-        add(Field::HopperHeight, "it must be at most 25000 mm".to_string());
+        add(Field::Line(Name::HopperHeight), "it must be at most 25000 mm".to_string());
     }
     if height < least {
         let slope = format!("over a run of {run} mm the slope is under 20 degrees");
-        add(Field::HopperHeight, format!("{slope}; the height must be at least {least} mm"));
+        add(
+            Field::Line(Name::HopperHeight),
+            format!("{slope}; the height must be at least {least} mm"),
+        );
     }
     found
 }
@@ -235,55 +231,48 @@ fn shape(refusal: Refusal, silo: &Description) -> Vec<Place> {
             10 * width
         ),
     };
-    vec![Place { field: Field::Strakes, why: format!("{made}; it must be {limit}") }]
+    vec![Place { field: Field::Line(Name::Strakes), why: format!("{made}; it must be {limit}") }]
 }
 
 impl Field {
-    /// The name of the text line that says this number; a product of the catalogue has its own line.
+    /// The name of the text line that says this number.
     pub fn name(self) -> Name {
         match self {
-            Field::Diameter => Name::Diameter,
+            Field::Line(name) => name,
             Field::SideA | Field::SideB => Name::Sides,
-            Field::Weight => Name::Weight,
-            Field::Ratio => Name::Ratio,
-            Field::Friction => Name::Friction,
-            Field::Factor => Name::Factor,
-            Field::FillingEccentricity => Name::FillingEccentricity,
-            Field::OutletEccentricity => Name::OutletEccentricity,
-            Field::HopperHeight => Name::HopperHeight,
-            Field::HopperRun => Name::HopperRun,
-            Field::Strakes | Field::Strake(_) => Name::Strakes,
-            Field::Depths | Field::Depth(_) => Name::Depths,
+            Field::Strake(_) => Name::Strakes,
+            Field::Depth(_) => Name::Depths,
         }
     }
 
     /// What a person calls it, counting from 1, and its value where it is one number.
     pub fn shown(self, silo: &Description) -> String {
-        let product = &silo.product;
-        let ratio = |number: u16| hundredths(number.into());
-        let length = |number: u32| millimetres(number.into());
-        let value = match self {
-            Field::Diameter | Field::SideA | Field::SideB => return self.shown_side(silo.section),
-            Field::Weight => newtons(product.weight.into()),
-            Field::Ratio => ratio(product.ratio),
-            Field::Friction => ratio(product.friction),
-            Field::Factor => ratio(product.factor),
-            Field::FillingEccentricity => length(silo.filling_eccentricity),
-            Field::OutletEccentricity => length(silo.outlet_eccentricity),
-            Field::HopperHeight => length(silo.hopper_height),
-            Field::HopperRun => length(silo.hopper_run),
-            Field::Strakes | Field::Depths => return self.name().word().to_string(),
-            Field::Strake(i) => return format!("strake {} = {} mm", i + 1, silo.strakes[i]),
-            Field::Depth(i) => return format!("depth {} = {} mm", i + 1, silo.depths[i]),
-        };
-        format!("{} = {value}", self.name().word())
-    }
-
-    fn shown_side(self, section: Section) -> String {
-        match (self, section) {
+        match (self, silo.section) {
+            (Field::Line(name), _) => shown_line(name, silo),
             (Field::SideA, Section::Rectangle(a, _)) => format!("side a = {a} mm"),
-            (_, Section::Rectangle(_, b)) => format!("side b = {b} mm"),
-            (_, Section::Circle(d)) => format!("diameter = {d} mm"),
+            (Field::SideB, Section::Rectangle(_, b)) => format!("side b = {b} mm"),
+            (Field::SideA | Field::SideB, Section::Circle(d)) => format!("diameter = {d} mm"),
+            (Field::Strake(i), _) => format!("strake {} = {} mm", i + 1, silo.strakes[i]),
+            (Field::Depth(i), _) => format!("depth {} = {} mm", i + 1, silo.depths[i]),
         }
     }
+}
+
+fn shown_line(name: Name, silo: &Description) -> String {
+    let product = &silo.product;
+    let ratio = |number: u16| hundredths(number.into());
+    let length = |number: u32| millimetres(number.into());
+    let value = match name {
+        Name::Diameter => length(silo.section.shorter_side()),
+        Name::Weight => newtons(product.weight.into()),
+        Name::Ratio => ratio(product.ratio),
+        Name::Friction => ratio(product.friction),
+        Name::Factor => ratio(product.factor),
+        Name::FillingEccentricity => length(silo.filling_eccentricity),
+        Name::OutletEccentricity => length(silo.outlet_eccentricity),
+        Name::HopperHeight => length(silo.hopper_height),
+        Name::HopperRun => length(silo.hopper_run),
+        _ => return name.word().to_string(),
+    };
+    format!("{} = {value}", name.word())
 }
