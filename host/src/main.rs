@@ -12,38 +12,42 @@ const HELP: &str = "\
 silo: wall loads of grain silos by ENV 1991-4, from a proved library
 
 usage:
-  silo loads FILE [--csv | --json]   the loads as tables, for a spreadsheet, or for a program
-  silo draw FILE -o FILE.svg         the silo to scale beside its pressures over depth
-  silo sheet FILE.silo -o FILE.sheet the sheet of bytes that a silo's text says
-  silo explain FILE.sheet            a sheet of bytes as text
-  silo catalogue                     the products of table 7.1
+  silo loads FILE [--csv | --json]    the loads as tables, for a spreadsheet or
+                                      for a program
+  silo draw FILE -o FILE.svg          the silo to scale beside its pressures
+  silo sheet FILE.silo -o FILE.sheet  the sheet of bytes that a text says
+  silo explain FILE.sheet             a sheet of bytes as text
+  silo catalogue                      the products of table 7.1
   silo --help | --version
 
-FILE is a silo's text or a sheet of bytes, told apart by the bytes: a sheet has control characters (it starts with byte 4 or 8),
-a text has none. - is standard input, and after -o standard output.
+FILE is a silo's text or a sheet of bytes, told apart by the bytes: a sheet has
+control characters (it starts with byte 4 or 8), a text has none. - is standard
+input, and after -o standard output.
 
 A silo's text, one name = value unit a line, in any order; # starts a comment:
-  diameter = 5000 mm               or  sides = 4000 x 6000 mm
-  product = wheat                  or  weight = 9.0 kN/m3
-  wall = steel                         ratio = 0.55
-                                       friction = 0.30
-                                       factor = 1.30
+  diameter = 5000 mm            or  sides = 4000 x 6000 mm
+  product = wheat               or  weight = 9.0 kN/m3
+  wall = steel                      ratio = 0.55
+                                    friction = 0.30
+                                    factor = 1.30
   filling eccentricity = 0 mm
   outlet eccentricity = 500 mm
-  floor = flat                     or  hopper height = 3000 mm
-                                       hopper run = 1700 mm
-  strakes = 8 x 2000 mm            or  3 x 1200, 2 x 1500 mm; top first
-  depths = every 500 mm            or  strake edges  or  0, 500, 1000 mm
+  floor = flat                  or  hopper height = 3000 mm
+                                    hopper run = 1700 mm
+  strakes = 8 x 2000 mm         or  3 x 1200, 2 x 1500 mm; top first
+  depths = every 500 mm         or  0, 500, 1000 mm  or  strake edges
 Lengths are in mm, cm or m, weights in N/m3 or kN/m3; a decimal has a point.
 
 examples:
   silo loads samples/wheat-tower.silo
   silo loads samples/barley-bin.silo --csv >barley.csv
   silo draw samples/cement.silo -o cement.svg
-  silo sheet samples/cement.silo -o cement.sheet && silo explain cement.sheet
+  silo sheet samples/cement.silo -o cement.sheet
+  silo explain cement.sheet
 
-exit status: 0 done; 1 refused by the library, with the refusal's number, meaning and place on standard error (with --json as an
-object on standard output); 2 bad use, or a text that cannot be read
+exit status: 0 done; 1 refused by the library, with the refusal's number,
+meaning and place on standard error (with --json as an object on standard
+output); 2 bad use, or a text that cannot be read
 ";
 
 /// A text or a sheet is far shorter.

@@ -116,8 +116,12 @@ pub fn plain(text: &str) -> String {
     spaced.split_whitespace().collect::<Vec<&str>>().join(" ")
 }
 
-/// The nearest of some words; all of them where none is near.
+/// The words that a text is part of, or the nearest; all of them where none is near.
 pub fn suggestion<'a>(text: &str, words: impl Iterator<Item = &'a str> + Clone) -> String {
+    let whole: Vec<&str> = words.clone().filter(|word| word.contains(text)).collect();
+    if text.len() > 2 && !whole.is_empty() {
+        return format!("did you mean {}?", whole.join(" or "));
+    }
     let nearest = words.clone().min_by_key(|word| distance(text, word));
     match nearest.filter(|word| distance(text, word) <= 1 + text.chars().count() / 4) {
         Some(word) => format!("did you mean {word}?"),

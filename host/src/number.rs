@@ -156,14 +156,22 @@ impl Measure {
     pub fn whole(&self, decimal: Decimal, power: u32, written: &str) -> Result<u64, String> {
         let show = self.show;
         decimal.whole(power, self.most).map_err(|misfit| match misfit {
-            Misfit::Finer(below) => format!(
-                "{written}: finer than a sheet can say; write {} or {}",
-                show(below),
-                show(below.saturating_add(1))
-            ),
+            Misfit::Finer(below) => {
+                let [below, above] = [below, below.saturating_add(1)].map(show);
+                let number = written.split(' ').next().unwrap_or("");
+                let meant = self.unit_for(decimal).map(|unit| format!(", or {number} {unit}"));
+                let meant = meant.unwrap_or_default();
+                format!("{written}: finer than a sheet can say; write {below} or {above}{meant}")
+            }
             Misfit::TooLarge => {
                 format!("{written}: over {}, the most that a sheet can say", show(self.most))
             }
         })
+    }
+
+    /// The largest unit in which a decimal is a number of a sheet.
+    fn unit_for(&self, decimal: Decimal) -> Option<&'static str> {
+        let fits = |unit: &&(&str, u32)| decimal.whole(unit.1, self.most).is_ok();
+        self.units.iter().rev().find(fits).map(|(unit, _)| *unit)
     }
 }

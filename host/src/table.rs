@@ -19,8 +19,9 @@ pub const COLUMNS: [(&str, &str); ROW] = [
 ];
 
 const LEGEND: &str = "
-p_hf horizontal, p_wf wall friction, p_vf vertical, on filling; P_w wall friction above z per metre of perimeter;
-p_he horizontal, p_we wall friction, on discharge; p_p patch load on discharge
+filling:   p_hf horizontal, p_wf wall friction, p_vf vertical,
+           P_w wall friction from the brim to z, per metre of perimeter
+discharge: p_he horizontal, p_we wall friction, p_p patch load
 ";
 
 pub fn loads(file: &str, silo: &Description, loads: &Loads) -> String {

@@ -9,7 +9,7 @@ use silo::description::{Description, Product, Section};
 use silo::text::{self, Error};
 
 /// Lines that differ from a readable silo.
-const BAD: [&[(&str, &str)]; 62] = [
+const BAD: [&[(&str, &str)]; 66] = [
     &[("diameter", "")],
     &[("diameter", "5000")],
     &[("diameter", "5,0 m")],
@@ -20,6 +20,7 @@ const BAD: [&[(&str, &str)]; 62] = [
     &[("diameter", "-5 m")],
     &[("diameter", "five metres")],
     &[("diameter", "mm")],
+    &[("diameter", "6.2 mm")],
     &[("diameter", "5 ft")],
     &[("diameter", "5 m 3 cm")],
     &[("diameter", "4294968 m")],
@@ -37,6 +38,9 @@ const BAD: [&[(&str, &str)]; 62] = [
     &[("diametre", "5 m")],
     &[("höhe", "5 m")],
     &[("bottom", "flat")],
+    &[("hopper", "2 m")],
+    &[("outlet", "0")],
+    &[("product", "rape seed")],
     &[("Diameter", "4 m")],
     &[("weight", "9")],
     &[("weight", "9 kg/m3")],
@@ -89,8 +93,9 @@ const BAD: [&[(&str, &str)]; 62] = [
 ];
 
 /// Texts that no line of `BAD` makes.
-const BROKEN: [&str; 6] = [
+const BROKEN: [&str; 7] = [
     "diameter 5000 mm\n",
+    "diameter: 5000 mm\n",
     "\n\n# nothing but a comment\n",
     "= 5\n",
     "diameter = 5 m # a comment\ndiameter = 6 m\n",
@@ -188,6 +193,7 @@ fn lists_are_exact() {
         ("every 4 m", vec![0, 4000, 8000, 10000]),
         ("every 5000 mm", vec![0, 5000, 10000]),
         ("every 20 m", vec![0, 10000]),
+        ("Every 5 m", vec![0, 5000, 10000]),
         ("Strake edges", vec![0, 2000, 4000, 6000, 8000, 10000]),
         ("at strake edges", vec![0, 2000, 4000, 6000, 8000, 10000]),
     ];

@@ -19,11 +19,12 @@ pub enum Depths {
 impl Depths {
     pub fn read(value: &str) -> Result<Depths, String> {
         let plain = name::plain(value);
-        if ["strake edges", "at strake edges", "strakes"].contains(&plain.as_str()) {
+        let edges = plain.strip_prefix("at ").unwrap_or(&plain);
+        if ["strake edges", "strake edge", "strakes", "edges"].contains(&edges) {
             return Ok(Depths::StrakeEdges);
         }
-        if let Some(step) = value.strip_prefix("every") {
-            return match value::quantity(step.trim(), &LENGTH)? {
+        if let Some(step) = plain.strip_prefix("every ") {
+            return match value::quantity(step, &LENGTH)? {
                 0 => Err("a step of 0; write a step such as every 500 mm".to_string()),
                 step => Ok(Depths::Every(step as u32)),
             };

@@ -76,8 +76,11 @@ impl<'a> Reader<'a> {
 
     fn enter(&mut self, line: usize, content: &'a str) {
         let Some((word, value)) = content.split_once('=') else {
-            let hint = "a line is name = value unit, such as diameter = 5000 mm";
-            return self.fail(Some(line), format!("{content}: no equals sign; {hint}"));
+            let mend = match content.split_once(':') {
+                Some((word, value)) => format!("write {} = {}", word.trim(), value.trim()),
+                None => "a line is name = value unit, such as diameter = 5000 mm".to_string(),
+            };
+            return self.fail(Some(line), format!("{content}: no equals sign; {mend}"));
         };
         if word.trim().is_empty() {
             return self.fail(Some(line), format!("{content}: no name before the equals sign"));
@@ -193,6 +196,9 @@ impl<'a> Reader<'a> {
     fn product(&mut self) -> Option<Product> {
         let properties = [Name::Weight, Name::Ratio, Name::Friction, Name::Factor];
         if !self.either(&[Name::Product, Name::Wall], &properties) {
+            if self.has(Name::Product) {
+                self.take(Name::Product, catalogue::row);
+            }
             return None;
         }
         if self.has(Name::Product) || self.has(Name::Wall) {
