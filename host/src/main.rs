@@ -114,7 +114,10 @@ fn run(arguments: Arguments) -> Result<(Outcome, Option<String>), String> {
     }
     let writes = ["sheet", "draw"].contains(&command);
     if writes && output.is_none() {
-        return Err(format!("silo {command} {file}: -o and the file to write are due"));
+        return Err(format!("{command} {file}: -o and the file to write are due"));
+    }
+    if file != "-" && output.as_deref() == Some(file) {
+        return Err(format!("{command} {file}: -o would write over it"));
     }
     let name = if file == "-" { "standard input" } else { file };
     let bytes = || read(file).map_err(|error| format!("{name}: {error}"));
@@ -131,7 +134,7 @@ fn run(arguments: Arguments) -> Result<(Outcome, Option<String>), String> {
 /// A command that stands without its file, or is unknown.
 fn file_due(command: &str) -> String {
     match COMMANDS.contains(&command) {
-        true => format!("silo {command}: a file is due, such as samples/wheat-tower.silo"),
+        true => format!("{command}: a file is due, such as samples/wheat-tower.silo"),
         false => {
             format!("{command}: unknown command; {}", suggestion(command, COMMANDS.into_iter()))
         }

@@ -63,7 +63,7 @@ fn samples_as_stored() {
 
 #[test]
 fn pages_as_stored() {
-    let pages: [(&[&str], i32); 16] = [
+    let pages: [(&[&str], i32); 17] = [
         (&["--version"], 0),
         (&["--help"], 0),
         (&["catalogue"], 0),
@@ -78,6 +78,7 @@ fn pages_as_stored() {
         (&["draw", "samples/cement.silo"], 2),
         (&["draw", "samples/cement.silo", "-o"], 2),
         (&["draw", "samples/cement.silo", "-o", "samples/none/cement.svg"], 2),
+        (&["sheet", "samples/cement.silo", "-o", "samples/cement.silo"], 2),
         (&["explain", "samples/cement.silo"], 2),
         (&["explain", "samples/cement.silo", "--csv"], 2),
     ];

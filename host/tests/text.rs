@@ -9,7 +9,7 @@ use silo::description::{Description, Product, Section};
 use silo::text::{self, Error};
 
 /// Lines that differ from a readable silo.
-const BAD: [&[(&str, &str)]; 66] = [
+const BAD: [&[(&str, &str)]; 69] = [
     &[("diameter", "")],
     &[("diameter", "5000")],
     &[("diameter", "5,0 m")],
@@ -88,6 +88,9 @@ const BAD: [&[(&str, &str)]; 66] = [
     &[("strakes", "65.536 m")],
     &[("depths", "")],
     &[("depths", "every 0 mm")],
+    &[("depths", "every -5 m")],
+    &[("depths", "every")],
+    &[("depths", "every 1 mm"), ("strakes", "24 x 3 m")],
     &[("depths", "every step")],
     &[("depths", "all")],
 ];

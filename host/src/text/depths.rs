@@ -23,8 +23,9 @@ impl Depths {
         if ["strake edges", "strake edge", "strakes", "edges"].contains(&edges) {
             return Ok(Depths::StrakeEdges);
         }
-        if let Some(step) = plain.strip_prefix("every ") {
-            return match value::quantity(step, &LENGTH)? {
+        let (first, rest) = value.split_once(char::is_whitespace).unwrap_or((value, ""));
+        if first.eq_ignore_ascii_case("every") {
+            return match value::quantity(rest.trim(), &LENGTH)? {
                 0 => Err("a step of 0; write a step such as every 500 mm".to_string()),
                 step => Ok(Depths::Every(step as u32)),
             };
