@@ -27,8 +27,10 @@ pub fn page(file: &str, silo: &Description, loads: &Loads, curves: &Loads) -> St
     chart::draw(&mut svg, silo, &layout, curves);
     silo::draw(&mut svg, silo, &layout);
     values::bottom(&mut svg, silo, &layout, loads);
-    let foot = "Wall loads by ENV 1991-4, rounded up; from the proved library. Silo to scale.";
-    svg.text("start small", (40.0, HEIGHT - 12.0), foot);
+    let mut foot =
+        "Wall loads by ENV 1991-4, rounded up; from the proved library. Silo to scale".to_string();
+    foot += if layout.is_aligned() { "." } else { "; the chart has a depth scale of its own." };
+    svg.text("start small", (40.0, HEIGHT - 12.0), &foot);
     svg.page(&name)
 }
 

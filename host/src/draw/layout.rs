@@ -42,6 +42,11 @@ impl Layout {
         Layout { scale, axis: (SILO.0 + SILO.1) / 2.0, depth_scale, wall }
     }
 
+    /// Silo and chart have one scale of depth.
+    pub fn is_aligned(&self) -> bool {
+        self.scale == self.depth_scale
+    }
+
     /// The height of a depth in the silo.
     pub fn silo_y(&self, depth: f64) -> f64 {
         BRIM + depth * self.scale
