@@ -8,13 +8,13 @@ pub mod description;
 pub mod library;
 pub mod name;
 pub mod number;
+pub mod place;
 pub mod text;
 
 mod csv;
 mod draw;
 mod form;
 mod json;
-mod place;
 mod source;
 mod table;
 mod value;

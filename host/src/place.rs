@@ -161,7 +161,7 @@ fn bottom(silo: &Description) -> Vec<Place> {
     let least = (363_971 * run).div_ceil(1_000_000);
     let mut found = Vec::new();
     let mut add = |field, why| found.push(Place { field, why });
-    if run == 0 {
+    if run == 0 && height > 0 {
         let why = "the run is 0; it must be at least 1 mm, or write floor = flat without a hopper";
         add(Field::Line(Name::HopperRun), why.to_string());
     }

@@ -7,8 +7,10 @@ use silo::commands::{self, Format};
 use silo::library::{self, Refusal};
 use silo::text;
 
+type Changes = &'static [(&'static str, &'static str)];
+
 /// Texts that are refused: the number, what is wrong, and the lines that differ from an accepted silo.
-const TEXTS: [(u32, &str, &[(&str, &str)]); 36] = [
+const TEXTS: [(u32, &str, Changes); 36] = [
     (1, "far too many depths", &[("depths", "every 20 mm")]),
     (4, "too many depths", &[("depths", "every 45 mm")]),
     (4, "too many strakes", &[("strakes", "25 x 1000 mm")]),

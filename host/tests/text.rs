@@ -1,5 +1,5 @@
-//! The text form: what it says exactly, texts that cannot be read against `golden/bad-text.txt`, text to bytes and back, and
-//! tens of thousands of damaged texts.
+//! The text form: what it says exactly, texts that cannot be read against `golden/bad-text.txt`, and tens of thousands of
+//! damaged texts.
 
 mod common;
 
@@ -217,103 +217,6 @@ fn editors_and_spacing_make_no_difference() {
     }
 }
 
-/// Numbers at and beside the library's limits, and any others.
-fn number(random: &mut Random) -> u32 {
-    let near: [u32; 16] =
-        [0, 1, 9, 10, 20, 100, 135, 200, 500, 1000, 2000, 3000, 9000, 25_000, 50_000, 65_535];
-    match random.below(4) {
-        0 => random.next() as u32,
-        1 => random.of(&near).saturating_sub(1),
-        2 => random.of(&near) + 1,
-        _ => random.of(&near),
-    }
-}
-
-fn any_description(random: &mut Random) -> Description {
-    let section = match random.below(2) {
-        0 => Section::Circle(number(random)),
-        _ => Section::Rectangle(number(random), number(random)),
-    };
-    let mut half = || number(random) as u16;
-    let (ratio, friction, factor) = (half(), half(), half());
-    let product = Product { weight: number(random), ratio, friction, factor };
-    let product = match random.below(4) {
-        0 => {
-            Product::from_catalogue(random.below(10) as u32, random.below(2) as u32).expect("a row")
-        }
-        _ => product,
-    };
-    let flat = random.below(3) == 0;
-    let mut bottom = || if flat { 0 } else { number(random) };
-    let (hopper_height, hopper_run) = (bottom(), bottom());
-    let equal = random.below(2) == 0;
-    let height = number(random) as u16;
-    let mut strake = || if equal { height } else { number(random) as u16 };
-    let strakes: Vec<u16> = (0..1 + height % 24).map(|_| strake()).collect();
-    let silo = Description {
-        section,
-        product,
-        filling_eccentricity: number(random),
-        outlet_eccentricity: number(random),
-        hopper_height,
-        hopper_run,
-        depths: Vec::new(),
-        strakes,
-    };
-    Description { depths: any_depths(random, &silo), ..silo }
-}
-
-/// Mostly accepted.
-fn usual_description(random: &mut Random) -> Description {
-    let strakes: Vec<u16> =
-        (0..4 + random.below(8)).map(|_| 1000 + random.below(1500) as u16).collect();
-    let product = Product::from_catalogue(random.below(10) as u32, random.below(2) as u32);
-    let (hopper_height, hopper_run) = random.of(&[(0, 0), (2000, 1100)]);
-    let silo = Description {
-        section: Section::Circle(2300 + random.below(2000) as u32),
-        product: product.expect("a row"),
-        filling_eccentricity: random.below(570) as u32,
-        outlet_eccentricity: 0,
-        hopper_height,
-        hopper_run,
-        depths: Vec::new(),
-        strakes,
-    };
-    Description { depths: any_depths(random, &silo), ..silo }
-}
-
-fn any_depths(random: &mut Random, silo: &Description) -> Vec<u32> {
-    let wall = silo.wall_height() as u32;
-    let count = 1 + random.below(200) as u32;
-    match random.below(3) {
-        0 => [0].into_iter().chain(silo.edges().map(|(_, edge)| edge as u32)).collect(),
-        1 => (0..count).map(|i| i * (wall / count)).chain([wall]).take(200).collect(),
-        _ => (0..count).map(|_| number(random)).collect(),
-    }
-}
-
-#[test]
-fn bytes_to_text_and_back_are_the_same() {
-    let mut random = Random(20261115);
-    let mut accepted = 0;
-    for i in 0..20_000 {
-        let silo = match i % 2 {
-            0 => any_description(&mut random),
-            _ => usual_description(&mut random),
-        };
-        let sheet = silo.to_bytes();
-        assert_eq!(Description::from_bytes(&sheet).as_ref(), Ok(&silo));
-        let outcome = commands::explain("any.sheet", &sheet);
-        assert_eq!(outcome.status, 0);
-        let text = String::from_utf8(outcome.output).expect("UTF-8");
-        let read = text::read(&text).unwrap_or_else(|errors| panic!("{text}{errors:?}"));
-        assert_eq!(read.description.to_bytes(), sheet, "{text}");
-        assert_eq!(text::write(&read.description), text);
-        accepted += u32::from(silo::library::answers_length(&sheet).is_ok());
-    }
-    println!("20,000 descriptions, of which {accepted} are accepted");
-}
-
 const WORDS: [&str; 24] = [
     "diameter",
     "sides",
@@ -377,7 +280,7 @@ fn names_a_line(error: &Error, lines: usize) -> bool {
 
 #[test]
 fn damaged_texts_give_errors_with_lines_and_never_a_panic() {
-    let mut random = Random(7_101_991_4);
+    let mut random = Random(71_019_914);
     let names = ["wheat-tower.silo", "barley-bin.silo", "cement.silo", "blank-friction.silo"];
     let texts = names.map(|name| String::from_utf8(sample(name)).expect(name));
     let (mut read, mut unread, mut accepted) = (0, 0, 0);
