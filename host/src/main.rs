@@ -105,6 +105,7 @@ fn run(arguments: Arguments) -> Result<(Outcome, Option<String>), String> {
         ["help"] => return Ok((commands::said(HELP), None)),
         ["version"] => return Ok((commands::said(VERSION), None)),
         ["catalogue"] => return Ok((commands::said(&catalogue::table()), output)),
+        ["catalogue", more, ..] => return Err(format!("catalogue {more}: no file is due")),
         [command] => return Err(file_due(command)),
         [command, file] => (command, file),
         [_, _, more, ..] => return Err(format!("{more}: one file is due")),

@@ -63,10 +63,11 @@ fn samples_as_stored() {
 
 #[test]
 fn pages_as_stored() {
-    let pages: [(&[&str], i32); 17] = [
+    let pages: [(&[&str], i32); 18] = [
         (&["--version"], 0),
         (&["--help"], 0),
         (&["catalogue"], 0),
+        (&["catalogue", "wheat"], 2),
         (&[], 2),
         (&["lods", "samples/cement.silo"], 2),
         (&["loads"], 2),
