@@ -31,10 +31,14 @@ struct Where {
     what: String,
 }
 
+/// The first bytes of a text in UTF-16, which has to be saved as UTF-8.
+const UTF_16: [&[u8]; 2] = [b"\xff\xfe", b"\xfe\xff"];
+
 /// A sheet starts with byte 4 or 8, and no text has such control characters. An empty file is an empty sheet.
 pub fn is_sheet(bytes: &[u8]) -> bool {
     let control = |byte: &u8| *byte < b' ' && !b"\t\n\r".contains(byte);
-    bytes.is_empty() || bytes.iter().any(control)
+    let utf_16 = UTF_16.iter().any(|mark| bytes.starts_with(mark));
+    bytes.is_empty() || (!utf_16 && bytes.iter().any(control))
 }
 
 /// The silo of a file, text or bytes.

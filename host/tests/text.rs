@@ -134,6 +134,8 @@ fn a_text_that_is_no_utf8_has_a_line() {
     let outcome = commands::loads("tower.silo", b"# tower\ndiameter = 5 m \xb3\n", Format::Table);
     assert_eq!(outcome.status, 2);
     assert_eq!(outcome.messages, "tower.silo:2: not UTF-8 text; save the file as UTF-8\n");
+    let utf_16 = commands::loads("tower.silo", b"\xff\xfed\x00 \x00=\x00", Format::Table);
+    assert_eq!(utf_16.messages, "tower.silo:1: not UTF-8 text; save the file as UTF-8\n");
 }
 
 fn described(changes: &[(&str, &str)]) -> Description {
