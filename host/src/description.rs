@@ -1,127 +1,164 @@
-//! A silo's description, lines of a word and whole numbers, and the sheet that it makes.
-//!
-//! ```text
-//! circle D                  or  rectangle A B        mm
-//! product WEIGHT KS MU C0   or  catalogue ROW WALL   N/m3, then hundredths
-//! filling E_I E_O           eccentricities, mm
-//! bottom H R                hopper height and run, mm; 0 0 is a flat floor
-//! strakes HEIGHT ..         top first, mm
-//! depths Z ..               below the brim, rising, mm
-//! ```
-//!
-//! Each line stands once, in any order; `#` starts a comment. Only what a sheet cannot hold is an error here: whether a silo can
-//! be calculated is for the library to say.
+//! A silo as a sheet describes it, whether the library accepts it or not, and the sheet's bytes.
 
-use crate::silo::{self, Refusal};
+use crate::library::{self, Refusal};
 
-pub enum Error {
-    /// A line, counted from 1, and what is wrong with it.
-    Line(usize, String),
-    Missing(&'static str),
-    /// The line of a catalogue row that is refused.
-    Refused(usize, Refusal),
+/// mm
+#[derive(Clone, Copy, Debug, PartialEq, Eq)]
+pub enum Section {
+    Circle(u32),
+    Rectangle(u32, u32),
 }
 
+#[derive(Clone, Copy, Debug, PartialEq, Eq)]
+pub struct Product {
+    /// γ, N/m³
+    pub weight: u32,
+    /// Ks, μ and C0, hundredths
+    pub ratio: u16,
+    pub friction: u16,
+    pub factor: u16,
+}
+
+#[derive(Clone, Debug, PartialEq, Eq)]
 pub struct Description {
-    pub sheet: Vec<u8>,
-    /// Heights, top first (mm).
-    pub strakes: Vec<u32>,
-    pub flat: bool,
+    pub section: Section,
+    pub product: Product,
+    /// e_i and e_o, mm
+    pub filling_eccentricity: u32,
+    pub outlet_eccentricity: u32,
+    /// H and r, mm
+    pub hopper_height: u32,
+    pub hopper_run: u32,
+    /// Heights, top first, mm
+    pub strakes: Vec<u16>,
+    /// mm
+    pub depths: Vec<u32>,
 }
 
-/// Bytes of each number in a record's payload.
-enum Fields {
-    Each(&'static [usize]),
-    All(usize),
-}
+/// Bytes of a record's header: payload length and kind.
+pub const HEADER: usize = 4;
+/// Bytes of a catalogue record: header, γ, Ks, μ, C0.
+const PRODUCT_RECORD: usize = 14;
+/// A record's payload length is a u16.
+pub const MOST_STRAKES: usize = u16::MAX as usize / 2;
+pub const MOST_DEPTHS: usize = u16::MAX as usize / 4;
 
-/// A word that starts a line, its record's place on the sheet, and that record's kind and numbers.
-struct Word {
-    name: &'static str,
-    place: usize,
-    kind: u16,
-    fields: Fields,
-}
-
-const fn word(name: &'static str, place: usize, kind: u16, fields: Fields) -> Word {
-    Word { name, place, kind, fields }
-}
-
-const WORDS: [Word; 8] = [
-    word("circle", 0, 1, Fields::Each(&[4])),
-    word("rectangle", 0, 2, Fields::Each(&[4, 4])),
-    word("product", 1, 3, Fields::Each(&[4, 2, 2, 2])),
-    word("catalogue", 1, 3, Fields::Each(&[4, 4])),
-    word("filling", 2, 4, Fields::Each(&[4, 4])),
-    word("bottom", 3, 5, Fields::Each(&[4, 4])),
-    word("strakes", 4, 6, Fields::All(2)),
-    word("depths", 5, 7, Fields::All(4)),
-];
-
-const PLACES: [&str; 6] =
-    ["circle or rectangle", "product or catalogue", "filling", "bottom", "strakes", "depths"];
-
-pub fn read(text: &str) -> Result<Description, Error> {
-    let mut records: [Option<Vec<u8>>; 6] = Default::default();
-    let mut strakes = Vec::new();
-    let mut flat = false;
-    for (i, line) in text.lines().enumerate() {
-        let content = line.split('#').next().unwrap_or("");
-        let mut parts = content.split_whitespace();
-        let Some(name) = parts.next() else { continue };
-        let fail = |why: String| Error::Line(i + 1, why);
-        let word = WORDS.iter().find(|word| word.name == name);
-        let word = word.ok_or_else(|| fail(format!("unknown word: {name}")))?;
-        if records[word.place].is_some() {
-            return Err(fail(format!("{} given twice", PLACES[word.place])));
-        }
-        let numbers = parts.map(number).collect::<Result<Vec<u32>, String>>().map_err(fail)?;
-        let record = encode(word, &numbers).map_err(fail)?;
-        records[word.place] = Some(match word.name {
-            "catalogue" => silo::catalogue(numbers[0], numbers[1])
-                .map_err(|refusal| Error::Refused(i + 1, refusal))?
-                .to_vec(),
-            _ => record,
-        });
-        match word.name {
-            "strakes" => strakes = numbers,
-            "bottom" => flat = numbers == [0, 0],
-            _ => (),
+impl Section {
+    pub fn shorter_side(self) -> u32 {
+        match self {
+            Section::Circle(d) => d,
+            Section::Rectangle(a, b) => a.min(b),
         }
     }
-    let mut sheet = Vec::new();
-    for (place, record) in records.into_iter().enumerate() {
-        sheet.extend(record.ok_or(Error::Missing(PLACES[place]))?);
-    }
-    Ok(Description { sheet, strakes, flat })
 }
 
-fn number(part: &str) -> Result<u32, String> {
-    part.parse().map_err(|_| format!("not a whole number from 0 to {}: {part}", u32::MAX))
+impl Product {
+    /// A row of table 7.1 from the library.
+    pub fn from_catalogue(row: u32, wall: u32) -> Result<Product, Refusal> {
+        let mut record = [0; PRODUCT_RECORD];
+        library::fill_record(row, wall, &mut record)?;
+        Ok(Product::from_payload(&record[HEADER..]))
+    }
+
+    fn from_payload(payload: &[u8]) -> Product {
+        let [ratio, friction, factor] = [4, 6, 8].map(|place| u16_at(payload, place));
+        Product { weight: u32_at(payload, 0), ratio, friction, factor }
+    }
 }
 
-/// A record: two bytes of payload length, two of kind, then the numbers, all lowest byte first.
-fn encode(word: &Word, numbers: &[u32]) -> Result<Vec<u8>, String> {
-    if let Fields::Each(widths) = word.fields {
-        if numbers.len() != widths.len() {
-            let (has, due) = (numbers.len(), widths.len());
-            return Err(format!("{}: numbers given {has}, due {due}", word.name));
-        }
+impl Description {
+    pub fn is_flat(&self) -> bool {
+        self.hopper_height == 0 && self.hopper_run == 0
     }
-    let mut payload: Vec<u8> = Vec::new();
-    for (i, number) in numbers.iter().enumerate() {
-        let width = match word.fields {
-            Fields::Each(widths) => widths[i],
-            Fields::All(width) => width,
+
+    /// V, mm
+    pub fn wall_height(&self) -> u64 {
+        self.strakes.iter().map(|height| u64::from(*height)).sum()
+    }
+
+    /// Each strake's height and lower edge, mm
+    pub fn edges(&self) -> impl Iterator<Item = (u16, u64)> + '_ {
+        self.strakes.iter().scan(0, |edge, height| {
+            *edge += u64::from(*height);
+            Some((*height, *edge))
+        })
+    }
+
+    /// h = V + H, mm
+    pub fn height(&self) -> u64 {
+        self.wall_height() + u64::from(self.hopper_height)
+    }
+
+    /// The sheet of six records. At most `MOST_STRAKES` and `MOST_DEPTHS` can be written.
+    pub fn to_bytes(&self) -> Vec<u8> {
+        let product = &self.product;
+        let mut product_payload = words(&[product.weight]);
+        product_payload.extend(halves(&[product.ratio, product.friction, product.factor]));
+        let section = match self.section {
+            Section::Circle(d) => record(1, words(&[d])),
+            Section::Rectangle(a, b) => record(2, words(&[a, b])),
         };
-        if width == 2 && *number > u16::MAX.into() {
-            return Err(format!("over {}: {number}", u16::MAX));
-        }
-        payload.extend(&number.to_le_bytes()[..width]);
+        let records = [
+            section,
+            record(3, product_payload),
+            record(4, words(&[self.filling_eccentricity, self.outlet_eccentricity])),
+            record(5, words(&[self.hopper_height, self.hopper_run])),
+            record(6, halves(&self.strakes)),
+            record(7, words(&self.depths)),
+        ];
+        records.concat()
     }
-    let length = u16::try_from(payload.len()).map_err(|_| "too many numbers".to_string())?;
-    let mut record = Vec::from(length.to_le_bytes());
-    record.extend(word.kind.to_le_bytes());
-    record.extend(payload);
-    Ok(record)
+
+    /// The description in six records; a refusal of form (1 to 5) is the library's.
+    pub fn from_bytes(sheet: &[u8]) -> Result<Description, Refusal> {
+        if let Err(refusal) = library::answers_length(sheet) {
+            if refusal.is_of_form() {
+                return Err(refusal);
+            }
+        }
+        let mut rest = sheet;
+        let [section, product, filling, bottom, strakes, depths] =
+            std::array::from_fn(|_| next_payload(&mut rest));
+        Ok(Description {
+            section: match section.len() {
+                4 => Section::Circle(u32_at(section, 0)),
+                _ => Section::Rectangle(u32_at(section, 0), u32_at(section, 4)),
+            },
+            product: Product::from_payload(product),
+            filling_eccentricity: u32_at(filling, 0),
+            outlet_eccentricity: u32_at(filling, 4),
+            hopper_height: u32_at(bottom, 0),
+            hopper_run: u32_at(bottom, 4),
+            strakes: (0..strakes.len() / 2).map(|i| u16_at(strakes, 2 * i)).collect(),
+            depths: (0..depths.len() / 4).map(|i| u32_at(depths, 4 * i)).collect(),
+        })
+    }
+}
+
+/// The next record's payload, of a sheet whose form the library has accepted.
+fn next_payload<'a>(rest: &mut &'a [u8]) -> &'a [u8] {
+    let (payload, after) = rest[HEADER..].split_at(u16_at(rest, 0).into());
+    *rest = after;
+    payload
+}
+
+fn record(kind: u16, payload: Vec<u8>) -> Vec<u8> {
+    let length = u16::try_from(payload.len()).expect("the payload's length is a u16");
+    [halves(&[length, kind]), payload].concat()
+}
+
+fn words(numbers: &[u32]) -> Vec<u8> {
+    numbers.iter().flat_map(|n| n.to_le_bytes()).collect()
+}
+
+fn halves(numbers: &[u16]) -> Vec<u8> {
+    numbers.iter().flat_map(|n| n.to_le_bytes()).collect()
+}
+
+pub fn u16_at(bytes: &[u8], place: usize) -> u16 {
+    u16::from_le_bytes([bytes[place], bytes[place + 1]])
+}
+
+fn u32_at(bytes: &[u8], place: usize) -> u32 {
+    u32::from(u16_at(bytes, place)) | u32::from(u16_at(bytes, place + 2)) << 16
 }

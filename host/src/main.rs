@@ -1,92 +1,175 @@
-//! Reads a silo's description and prints its wall loads, or the refusal.
+//! The command line: reads arguments and files, writes what a command says.
 
-mod c;
-mod description;
-mod silo;
-
-use description::{Description, Error};
-use silo::{Loads, Refusal};
+use silo::catalogue;
+use silo::commands::{self, Format, Outcome};
+use silo::name::suggestion;
+use std::io::{self, ErrorKind, Read, Write};
 use std::process::ExitCode;
 
-const COLUMNS: [(&str, &str); silo::ROW] = [
-    ("z", "mm"),
-    ("p_hf", "Pa"),
-    ("p_wf", "Pa"),
-    ("p_vf", "Pa"),
-    ("P_w", "N/m"),
-    ("p_he", "Pa"),
-    ("p_we", "Pa"),
-    ("p_p", "Pa"),
-];
+const COMMANDS: [&str; 6] = ["loads", "draw", "sheet", "explain", "catalogue", "help"];
+const VERSION: &str = concat!("silo ", env!("CARGO_PKG_VERSION"), "\n");
+const HELP: &str = "\
+silo: wall loads of grain silos by ENV 1991-4, from a proved library
 
-/// 0: loads printed; 1: refused; 2: the description cannot be read.
+usage:
+  silo loads FILE [--csv | --json]    the loads as tables, for a spreadsheet or
+                                      for a program
+  silo draw FILE -o FILE.svg          the silo to scale beside its pressures
+  silo sheet FILE.silo -o FILE.sheet  the sheet of bytes that a text says
+  silo explain FILE.sheet             a sheet of bytes as text
+  silo catalogue                      the products of table 7.1
+  silo --help | --version
+
+FILE is a silo's text or a sheet of bytes, told apart by the bytes: a sheet has
+control characters (it starts with byte 4 or 8), a text has none. - is standard
+input, and after -o standard output.
+
+A silo's text, one name = value unit a line, in any order; # starts a comment:
+  diameter = 5000 mm            or  sides = 4000 x 6000 mm
+  product = wheat               or  weight = 9.0 kN/m3
+  wall = steel                      ratio = 0.55
+                                    friction = 0.30
+                                    factor = 1.30
+  filling eccentricity = 0 mm
+  outlet eccentricity = 500 mm
+  floor = flat                  or  hopper height = 3000 mm
+                                    hopper run = 1700 mm
+  strakes = 8 x 2000 mm         or  3 x 1200, 2 x 1500 mm; top first
+  depths = every 500 mm         or  0, 500, 1000 mm  or  strake edges
+Lengths are in mm, cm or m, weights in N/m3 or kN/m3; a decimal has a point.
+
+examples:
+  silo loads samples/wheat-tower.silo
+  silo loads samples/barley-bin.silo --csv >barley.csv
+  silo draw samples/cement.silo -o cement.svg
+  silo sheet samples/cement.silo -o cement.sheet
+  silo explain cement.sheet
+
+exit status: 0 done; 1 refused by the library, with the refusal's number,
+meaning and place on standard error (with --json as an object on standard
+output); 2 bad use, or a text that cannot be read
+";
+
+/// A text or a sheet is far shorter.
+const LONGEST_FILE: u64 = 1 << 20;
+
+#[derive(Default)]
+struct Arguments {
+    /// The command and its file.
+    words: Vec<String>,
+    /// After `-o`.
+    output: Option<String>,
+    format: Option<Format>,
+}
+
 fn main() -> ExitCode {
-    let arguments: Vec<String> = std::env::args().skip(1).collect();
-    let [path] = &arguments[..] else {
-        eprintln!("usage: silo-loads DESCRIPTION");
-        return ExitCode::from(2);
-    };
-    let text = match std::fs::read_to_string(path) {
-        Ok(text) => text,
-        Err(error) => return unreadable(&format!("{path}: {error}")),
-    };
-    match description::read(&text) {
-        Ok(description) => match Loads::of(&description.sheet, description.strakes.len()) {
-            Ok(loads) => {
-                print!("{}", page(&description, &loads));
-                ExitCode::SUCCESS
+    let given = std::env::args_os().skip(1).map(|word| word.to_string_lossy().into_owned());
+    let (outcome, output) = arguments(given).and_then(run).unwrap_or_else(|why| {
+        (commands::bad_use(format!("silo: {why}\nsilo --help shows the commands\n")), None)
+    });
+    finish(outcome, output.as_deref().unwrap_or("-"))
+}
+
+fn arguments(mut given: impl Iterator<Item = String>) -> Result<Arguments, String> {
+    let mut read = Arguments::default();
+    while let Some(word) = given.next() {
+        match word.as_str() {
+            "--help" | "-h" => return Ok(alone("help")),
+            "--version" | "-V" => return Ok(alone("version")),
+            "--csv" | "--json" if read.format.is_some() => {
+                return Err("--csv and --json: one of the two".to_string())
             }
-            Err(refusal) => refused(path, refusal),
-        },
-        Err(Error::Line(line, why)) => unreadable(&format!("{path}:{line}: {why}")),
-        Err(Error::Missing(what)) => unreadable(&format!("{path}: no line for {what}")),
-        Err(Error::Refused(line, refusal)) => refused(&format!("{path}:{line}"), refusal),
-    }
-}
-
-fn unreadable(why: &str) -> ExitCode {
-    eprintln!("{why}");
-    ExitCode::from(2)
-}
-
-fn refused(place: &str, refusal: Refusal) -> ExitCode {
-    println!("{place}: refused, {}: {}", refusal.number(), refusal.meaning());
-    ExitCode::from(1)
-}
-
-/// The tables of depths, of the bottom and of the strakes.
-fn page(description: &Description, loads: &Loads) -> String {
-    let mut page = line(COLUMNS.map(|(name, _)| name)) + &line(COLUMNS.map(|(_, unit)| unit));
-    for row in loads.rows() {
-        page += &line(row);
-    }
-    let bottom = loads.bottom();
-    if description.flat {
-        page += "\nflat floor\n";
-        page += &line(["Pa"]);
-        page += &line([bottom[0]]);
-    } else {
-        page += "\nhopper, quarters of its slope up from the outlet\n";
-        page += &line(["k", "P_n", "P_t"]);
-        page += &line(["", "Pa", "Pa"]);
-        for k in 0..5 {
-            page += &line([k as u32, bottom[k], bottom[5 + k]]);
+            "--csv" => read.format = Some(Format::Csv),
+            "--json" => read.format = Some(Format::Json),
+            "-o" if read.output.is_some() => return Err("-o stands twice".to_string()),
+            "-o" => read.output = Some(given.next().ok_or("-o: a file is due after it")?),
+            option if option.len() > 1 && option.starts_with('-') => {
+                return Err(format!("{option}: unknown option"))
+            }
+            _ => read.words.push(word),
         }
     }
-    page += "\nstrakes, top first\n";
-    page += &line(["edge", "p_he"]);
-    page += &line(["mm", "Pa"]);
-    let mut edge = 0;
-    for (height, load) in description.strakes.iter().zip(loads.strakes()) {
-        edge += height;
-        page += &line([edge, *load]);
-    }
-    page
+    Ok(read)
 }
 
-/// Fields of nine characters, flush right.
-fn line<T: std::fmt::Display>(fields: impl IntoIterator<Item = T>) -> String {
-    let mut line: String = fields.into_iter().map(|field| format!("{field:>9}")).collect();
-    line.push('\n');
-    line
+fn alone(command: &str) -> Arguments {
+    Arguments { words: vec![command.to_string()], ..Arguments::default() }
+}
+
+/// What a command says, and the file that its output goes to.
+fn run(arguments: Arguments) -> Result<(Outcome, Option<String>), String> {
+    let Arguments { words, output, format } = arguments;
+    let words: Vec<&str> = words.iter().map(String::as_str).collect();
+    let (command, file) = match words[..] {
+        [] => return Err("a command is due".to_string()),
+        ["help"] => return Ok((commands::said(HELP), None)),
+        ["version"] => return Ok((commands::said(VERSION), None)),
+        ["catalogue"] => return Ok((commands::said(&catalogue::table()), output)),
+        ["catalogue", more, ..] => return Err(format!("catalogue {more}: no file is due")),
+        [command] => return Err(file_due(command)),
+        [command, file] => (command, file),
+        [_, _, more, ..] => return Err(format!("{more}: one file is due")),
+    };
+    if format.is_some() && command != "loads" {
+        return Err("--csv and --json are for silo loads".to_string());
+    }
+    let writes = ["sheet", "draw"].contains(&command);
+    if writes && output.is_none() {
+        return Err(format!("{command} {file}: -o and the file to write are due"));
+    }
+    if file != "-" && output.as_deref() == Some(file) {
+        return Err(format!("{command} {file}: -o would write over it"));
+    }
+    let name = if file == "-" { "standard input" } else { file };
+    let bytes = || read(file).map_err(|error| format!("{name}: {error}"));
+    let outcome = match command {
+        "loads" => commands::loads(name, &bytes()?, format.unwrap_or(Format::Table)),
+        "draw" => commands::draw(name, &bytes()?),
+        "sheet" => commands::sheet(name, &bytes()?),
+        "explain" => commands::explain(name, &bytes()?),
+        _ => return Err(file_due(command)),
+    };
+    Ok((outcome, output))
+}
+
+/// A command that stands without its file, or is unknown.
+fn file_due(command: &str) -> String {
+    match COMMANDS.contains(&command) {
+        true => format!("{command}: a file is due, such as samples/wheat-tower.silo"),
+        false => {
+            format!("{command}: unknown command; {}", suggestion(command, COMMANDS.into_iter()))
+        }
+    }
+}
+
+fn read(file: &str) -> io::Result<Vec<u8>> {
+    let mut bytes = Vec::new();
+    let source: Box<dyn Read> = match file {
+        "-" => Box::new(io::stdin()),
+        _ => Box::new(std::fs::File::open(file)?),
+    };
+    source.take(LONGEST_FILE + 1).read_to_end(&mut bytes)?;
+    if bytes.len() as u64 > LONGEST_FILE {
+        return Err(io::Error::other("over 1 MiB, longer than any silo's text or sheet"));
+    }
+    Ok(bytes)
+}
+
+/// Writes messages and output. A reader that has gone away is no error.
+fn finish(outcome: Outcome, output: &str) -> ExitCode {
+    let _ = io::stderr().write_all(outcome.messages.as_bytes());
+    if outcome.output.is_empty() {
+        return ExitCode::from(outcome.status);
+    }
+    let written = match output {
+        "-" => io::stdout().write_all(&outcome.output).and_then(|_| io::stdout().flush()),
+        file => std::fs::write(file, &outcome.output),
+    };
+    match written {
+        Err(error) if error.kind() != ErrorKind::BrokenPipe => {
+            let _ = writeln!(io::stderr(), "silo: {output}: {error}");
+            ExitCode::from(commands::BAD_USE)
+        }
+        _ => ExitCode::from(outcome.status),
+    }
 }

@@ -1,0 +1,122 @@
+//! The commands, from a file's bytes to what is printed and the exit status.
+
+use crate::description::Description;
+use crate::library::{self, Loads, Refusal};
+use crate::source::{self, Failure, Source};
+use crate::{csv, draw, json, table, text};
+
+/// What a command writes to its output and to standard error, and its exit status.
+#[derive(Debug, Default)]
+pub struct Outcome {
+    pub status: u8,
+    pub output: Vec<u8>,
+    pub messages: String,
+}
+
+pub const REFUSED: u8 = 1;
+pub const BAD_USE: u8 = 2;
+
+#[derive(Clone, Copy, Debug, PartialEq, Eq)]
+pub enum Format {
+    Table,
+    Csv,
+    Json,
+}
+
+pub fn bad_use(messages: String) -> Outcome {
+    Outcome { status: BAD_USE, messages, ..Outcome::default() }
+}
+
+pub fn said(page: &str) -> Outcome {
+    done(page)
+}
+
+fn done(output: impl Into<Vec<u8>>) -> Outcome {
+    Outcome { output: output.into(), ..Outcome::default() }
+}
+
+fn failed(file: &str, failure: &Failure) -> Outcome {
+    match failure {
+        Failure::Text(errors) => bad_use(source::error_lines(file, errors)),
+        Failure::Refused(refused) => {
+            Outcome { status: REFUSED, messages: refused.lines(file), ..Outcome::default() }
+        }
+    }
+}
+
+/// The silo of a file with its loads.
+fn calculated(bytes: &[u8]) -> Result<(Source, Loads), Failure> {
+    let source = source::open(bytes)?;
+    match Loads::of(&source.sheet, source.silo.strakes.len()) {
+        Ok(loads) => Ok((source, loads)),
+        Err(refusal) => Err(source.refused(refusal)),
+    }
+}
+
+/// With JSON a refusal is an object of the output.
+pub fn loads(file: &str, bytes: &[u8], format: Format) -> Outcome {
+    match calculated(bytes) {
+        Ok((Source { silo, .. }, loads)) => done(match format {
+            Format::Table => table::loads(file, &silo, &loads),
+            Format::Csv => csv::loads(&silo, &loads),
+            Format::Json => json::loads(&silo, &loads),
+        }),
+        Err(Failure::Refused(refused)) if format == Format::Json => {
+            Outcome { status: REFUSED, ..done(refused.json()) }
+        }
+        Err(failure) => failed(file, &failure),
+    }
+}
+
+/// The sheet of a text. It is written even where the library refuses it.
+pub fn sheet(file: &str, bytes: &[u8]) -> Outcome {
+    if source::is_sheet(bytes) {
+        return bad_use(format!(
+            "{file}: a sheet of bytes, or empty; silo sheet reads a silo's text\n"
+        ));
+    }
+    match source::open(bytes) {
+        Err(failure) => failed(file, &failure),
+        Ok(source) => match library::answers_length(&source.sheet) {
+            Ok(_) => done(source.sheet),
+            Err(refusal) => {
+                let mut outcome = failed(file, &source.refused(refusal));
+                outcome.messages += "the sheet is written as the text has it\n";
+                Outcome { output: source.sheet, ..outcome }
+            }
+        },
+    }
+}
+
+/// The text of a sheet of bytes.
+pub fn explain(file: &str, bytes: &[u8]) -> Outcome {
+    if !source::is_sheet(bytes) {
+        return bad_use(format!("{file}: text; silo explain reads a sheet of bytes\n"));
+    }
+    match source::open_sheet(bytes) {
+        Ok(source) => done(text::write(&source.silo)),
+        Err(failure) => failed(file, &failure),
+    }
+}
+
+pub fn draw(file: &str, bytes: &[u8]) -> Outcome {
+    let drawn = calculated(bytes).and_then(|(source, loads)| {
+        let silo = with_more_depths(&source.silo);
+        let curves = Loads::of(&silo.to_bytes(), silo.strakes.len());
+        let curves = curves.map_err(|refusal: Refusal| source.refused(refusal))?;
+        Ok(draw::page(file, &source.silo, &loads, &curves))
+    });
+    drawn.map(done).unwrap_or_else(|failure| failed(file, &failure))
+}
+
+/// The same silo with depths for curves: the strakes' edges and even steps, at most 200.
+fn with_more_depths(silo: &Description) -> Description {
+    const STEPS: u64 = 160;
+    let wall = silo.wall_height();
+    let steps = (0..=STEPS).map(|i| wall * i / STEPS);
+    let mut depths: Vec<u32> =
+        steps.chain(silo.edges().map(|(_, edge)| edge)).map(|z| z as u32).collect();
+    depths.sort_unstable();
+    depths.dedup();
+    Description { depths, ..silo.clone() }
+}

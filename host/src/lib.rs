@@ -1,0 +1,20 @@
+//! `silo`: wall loads of grain silos by ENV 1991-4, for a person at the command line. Every load comes from the proved library.
+
+mod c;
+
+pub mod catalogue;
+pub mod commands;
+pub mod description;
+pub mod library;
+pub mod name;
+pub mod number;
+pub mod place;
+pub mod text;
+
+mod csv;
+mod draw;
+mod form;
+mod json;
+mod source;
+mod table;
+mod value;

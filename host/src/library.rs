@@ -1,0 +1,134 @@
+//! The proved library's three functions behind safe Rust: slices in, results out.
+
+use crate::c;
+
+/// Why a call was refused: the number that the library answers.
+#[derive(Clone, Copy, Debug, PartialEq, Eq)]
+pub struct Refusal(pub u32);
+
+/// What refusals 1, 2, .. mean.
+const MEANINGS: [&str; 16] = [
+    "the sheet is over 1,024 bytes",
+    "a record is cut short",
+    "a record's kind is not the one due",
+    "a record's length is not one that its kind allows (1 to 24 strakes, 1 to 200 depths)",
+    "bytes are left over after the last record",
+    "a diameter or side is outside 500 to 50,000 mm",
+    "the product is outside its limits: weight 1,000 to 30,000 N/m3, ratio Ks 0.20 to 1.00, friction mu 0.10 to 1.00, \
+     factor C0 1.00 to 2.00 or 0",
+    "an eccentricity is over a quarter of the diameter or shorter side",
+    "the bottom is neither flat nor a hopper of over 20 degrees with a run of at least 1 mm and under half the diameter \
+     or shorter side, and a height of at most 25,000 mm",
+    "a strake is outside 200 to 3,000 mm",
+    "a depth is below the wall's foot or not greater than the one before",
+    "too slender: wall and hopper are 10 or more times as high as the diameter or shorter side",
+    "squat: wall and hopper are less than 1.5 times as high as the diameter or shorter side",
+    "the answer list is not of the length due",
+    "the catalogue has no such row or wall",
+    "the catalogue buffer is not of 14 bytes",
+];
+
+impl Refusal {
+    pub const SHEET_TOO_LONG: Refusal = Refusal(1);
+    pub const CUT_SHORT: Refusal = Refusal(2);
+    pub const WRONG_KIND: Refusal = Refusal(3);
+    pub const WRONG_LENGTH: Refusal = Refusal(4);
+    pub const BYTES_LEFT_OVER: Refusal = Refusal(5);
+    pub const SECTION: Refusal = Refusal(6);
+    pub const PRODUCT: Refusal = Refusal(7);
+    pub const ECCENTRICITY: Refusal = Refusal(8);
+    pub const BOTTOM: Refusal = Refusal(9);
+    pub const STRAKE: Refusal = Refusal(10);
+    pub const DEPTH: Refusal = Refusal(11);
+    pub const TOO_SLENDER: Refusal = Refusal(12);
+    pub const SQUAT: Refusal = Refusal(13);
+    pub const ANSWERS_LENGTH: Refusal = Refusal(14);
+    pub const NO_SUCH_ROW: Refusal = Refusal(15);
+    pub const RECORD_LENGTH: Refusal = Refusal(16);
+
+    pub fn meaning(self) -> &'static str {
+        let place = (self.0 as usize).wrapping_sub(1);
+        MEANINGS.get(place).copied().unwrap_or("a refusal that this program does not know")
+    }
+
+    /// The sheet is not six records, so it has no description.
+    pub fn is_of_form(self) -> bool {
+        self.0 <= Refusal::BYTES_LEFT_OVER.0
+    }
+}
+
+/// A length comes back with this added.
+const LENGTH_MARK: u64 = 1 << 32;
+
+/// The length of the answer list that is due for a sheet, in numbers.
+pub fn answers_length(sheet: &[u8]) -> Result<usize, Refusal> {
+    // SAFETY: the pointer and the length are those of one slice, which the call only reads.
+    let answer = unsafe { c::silo_answers_length(sheet.as_ptr(), sheet.len()) };
+    match answer.checked_sub(LENGTH_MARK) {
+        Some(length) => Ok(length as usize),
+        None => Err(Refusal(answer as u32)),
+    }
+}
+
+fn done(answer: u32) -> Result<(), Refusal> {
+    match answer {
+        0 => Ok(()),
+        number => Err(Refusal(number)),
+    }
+}
+
+/// Fills the answer list; on refusal it is as it was.
+pub fn fill_loads(sheet: &[u8], answers: &mut [u32]) -> Result<(), Refusal> {
+    // SAFETY: each pointer comes with its own slice's length; `answers` is borrowed mutably, so it overlaps nothing.
+    done(unsafe { c::silo_loads(sheet.as_ptr(), sheet.len(), answers.as_mut_ptr(), answers.len()) })
+}
+
+/// Writes the product record of a row of table 7.1; wall 0 is steel and wall 1 concrete. On refusal the buffer is as it was.
+pub fn fill_record(row: u32, wall: u32, record: &mut [u8]) -> Result<(), Refusal> {
+    // SAFETY: the pointer and the length are those of one slice.
+    done(unsafe { c::silo_catalogue(row, wall, record.as_mut_ptr(), record.len()) })
+}
+
+/// Numbers of a depth's row: z (mm), p_hf, p_wf, p_vf (Pa), P_w (N/m), p_he, p_we, p_p (Pa).
+pub const ROW: usize = 8;
+/// Numbers of the bottom: floor and nine zeros, or P_n and P_t at k = 0..4 (Pa).
+pub const BOTTOM: usize = 10;
+
+/// The loads of an accepted sheet.
+pub struct Loads {
+    answers: Vec<u32>,
+    strakes: usize,
+}
+
+impl Loads {
+    /// The loads of a sheet with that many strakes.
+    pub fn of(sheet: &[u8], strakes: usize) -> Result<Loads, Refusal> {
+        let mut answers = vec![0; answers_length(sheet)?];
+        fill_loads(sheet, &mut answers)?;
+        Ok(Loads { answers, strakes })
+    }
+
+    fn parts(&self) -> (&[u32], &[u32], &[u32]) {
+        let (above, strakes) = self.answers.split_at(self.answers.len() - self.strakes);
+        let (rows, bottom) = above.split_at(above.len() - BOTTOM);
+        (rows, bottom, strakes)
+    }
+
+    pub fn rows(&self) -> impl Iterator<Item = &[u32]> {
+        self.parts().0.chunks_exact(ROW)
+    }
+
+    pub fn floor(&self) -> u32 {
+        self.parts().1[0]
+    }
+
+    /// k, P_n and P_t, k quarters of the hopper's slope up from the outlet.
+    pub fn hopper(&self) -> impl Iterator<Item = (usize, u32, u32)> + '_ {
+        let (normal, tangential) = self.parts().1.split_at(BOTTOM / 2);
+        normal.iter().zip(tangential).enumerate().map(|(k, (n, t))| (k, *n, *t))
+    }
+
+    pub fn strakes(&self) -> &[u32] {
+        self.parts().2
+    }
+}

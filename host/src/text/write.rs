@@ -1,0 +1,50 @@
+//! A description as text.
+
+use super::depths;
+use crate::catalogue;
+use crate::description::{Description, Product, Section};
+use crate::name::Name;
+use crate::number::hundredths;
+
+/// Lines that read as the same sheet.
+pub fn write(description: &Description) -> String {
+    let mut lines: Vec<(Name, String)> = Vec::new();
+    let length = |number: u32| format!("{number} mm");
+    match description.section {
+        Section::Circle(d) => lines.push((Name::Diameter, length(d))),
+        Section::Rectangle(a, b) => lines.push((Name::Sides, format!("{a} x {b} mm"))),
+    }
+    lines.extend(product_lines(&description.product));
+    lines.push((Name::FillingEccentricity, length(description.filling_eccentricity)));
+    lines.push((Name::OutletEccentricity, length(description.outlet_eccentricity)));
+    if description.is_flat() {
+        lines.push((Name::Floor, "flat".to_string()));
+    } else {
+        lines.push((Name::HopperHeight, length(description.hopper_height)));
+        lines.push((Name::HopperRun, length(description.hopper_run)));
+    }
+    lines.push((Name::Strakes, runs(&description.strakes) + " mm"));
+    lines.push((Name::Depths, depths::written(description)));
+    lines.into_iter().map(|(name, value)| format!("{} = {value}\n", name.word())).collect()
+}
+
+fn product_lines(product: &Product) -> [(Name, String); 4] {
+    let named = catalogue::name_of(product).map(|name| format!("  # {name}, table 7.1"));
+    let blank = if product.factor == 0 { "  # blank: the library takes 1.35" } else { "" };
+    let ratio = |number: u16| hundredths(number.into());
+    [
+        (Name::Weight, format!("{} N/m3{}", product.weight, named.unwrap_or_default())),
+        (Name::Ratio, ratio(product.ratio)),
+        (Name::Friction, ratio(product.friction)),
+        (Name::Factor, ratio(product.factor) + blank),
+    ]
+}
+
+/// Equal heights in a row as `COUNT x HEIGHT`.
+pub fn runs(heights: &[u16]) -> String {
+    let parts = heights.chunk_by(|a, b| a == b).map(|run| match run {
+        [height] => height.to_string(),
+        _ => format!("{} x {}", run.len(), run[0]),
+    });
+    parts.collect::<Vec<String>>().join(", ")
+}

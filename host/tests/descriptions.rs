@@ -1,0 +1,148 @@
+//! Random silos, refused ones too: text to bytes and back, and the tool's explanations beside the library's verdict.
+
+mod common;
+
+use common::Random;
+use silo::commands;
+use silo::description::{Description, Product, Section};
+use silo::library::{self, Refusal};
+use silo::{place, text};
+
+/// Numbers at and beside the library's limits, and any others.
+fn number(random: &mut Random) -> u32 {
+    let near: [u32; 16] =
+        [0, 1, 9, 10, 20, 100, 135, 200, 500, 1000, 2000, 3000, 9000, 25_000, 50_000, 65_535];
+    match random.below(4) {
+        0 => random.next() as u32,
+        1 => random.of(&near).saturating_sub(1),
+        2 => random.of(&near) + 1,
+        _ => random.of(&near),
+    }
+}
+
+fn any_description(random: &mut Random) -> Description {
+    let section = match random.below(2) {
+        0 => Section::Circle(number(random)),
+        _ => Section::Rectangle(number(random), number(random)),
+    };
+    let mut half = || number(random) as u16;
+    let (ratio, friction, factor) = (half(), half(), half());
+    let product = Product { weight: number(random), ratio, friction, factor };
+    let product = match random.below(4) {
+        0 => {
+            Product::from_catalogue(random.below(10) as u32, random.below(2) as u32).expect("a row")
+        }
+        _ => product,
+    };
+    let flat = random.below(3) == 0;
+    let mut bottom = || if flat { 0 } else { number(random) };
+    let (hopper_height, hopper_run) = (bottom(), bottom());
+    let equal = random.below(2) == 0;
+    let height = number(random) as u16;
+    let mut strake = || if equal { height } else { number(random) as u16 };
+    let strakes: Vec<u16> = (0..1 + height % 24).map(|_| strake()).collect();
+    let silo = Description {
+        section,
+        product,
+        filling_eccentricity: number(random),
+        outlet_eccentricity: number(random),
+        hopper_height,
+        hopper_run,
+        depths: Vec::new(),
+        strakes,
+    };
+    Description { depths: any_depths(random, &silo), ..silo }
+}
+
+fn description(random: &mut Random, i: usize) -> Description {
+    match i % 2 {
+        0 => any_description(random),
+        _ => slipped(random),
+    }
+}
+
+/// Mostly accepted; in one of two silos one number may be at fault.
+fn slipped(random: &mut Random) -> Description {
+    let mut silo = usual_description(random);
+    let number = number(random);
+    match random.below(16) {
+        0 => silo.section = Section::Circle(number),
+        1 => silo.product.weight = number,
+        2 => silo.product.friction = number as u16,
+        3 => silo.outlet_eccentricity = number,
+        4 => silo.hopper_height = number,
+        5 => silo.hopper_run = number,
+        6 => silo.strakes[0] = number as u16,
+        7 => silo.depths[0] = number,
+        _ => (),
+    }
+    silo
+}
+
+/// Mostly accepted.
+fn usual_description(random: &mut Random) -> Description {
+    let strakes: Vec<u16> =
+        (0..4 + random.below(8)).map(|_| 1000 + random.below(1500) as u16).collect();
+    let product = Product::from_catalogue(random.below(10) as u32, random.below(2) as u32);
+    let (hopper_height, hopper_run) = random.of(&[(0, 0), (2000, 1100)]);
+    let silo = Description {
+        section: Section::Circle(2300 + random.below(2000) as u32),
+        product: product.expect("a row"),
+        filling_eccentricity: random.below(570) as u32,
+        outlet_eccentricity: 0,
+        hopper_height,
+        hopper_run,
+        depths: Vec::new(),
+        strakes,
+    };
+    Description { depths: any_depths(random, &silo), ..silo }
+}
+
+fn any_depths(random: &mut Random, silo: &Description) -> Vec<u32> {
+    let wall = silo.wall_height() as u32;
+    let count = 1 + random.below(200) as u32;
+    match random.below(3) {
+        0 => [0].into_iter().chain(silo.edges().map(|(_, edge)| edge as u32)).collect(),
+        1 => (0..count).map(|i| i * (wall / count)).chain([wall]).take(200).collect(),
+        _ => (0..count).map(|_| number(random)).collect(),
+    }
+}
+
+#[test]
+fn bytes_to_text_and_back_are_the_same() {
+    let mut random = Random(20261115);
+    let mut accepted = 0;
+    for i in 0..20_000 {
+        let silo = description(&mut random, i);
+        let sheet = silo.to_bytes();
+        assert_eq!(Description::from_bytes(&sheet).as_ref(), Ok(&silo));
+        let outcome = commands::explain("any.sheet", &sheet);
+        assert_eq!(outcome.status, 0);
+        let text = String::from_utf8(outcome.output).expect("UTF-8");
+        let read = text::read(&text).unwrap_or_else(|errors| panic!("{text}{errors:?}"));
+        assert_eq!(read.description.to_bytes(), sheet, "{text}");
+        assert_eq!(text::write(&read.description), text);
+        accepted += u32::from(library::answers_length(&sheet).is_ok());
+    }
+    println!("20,000 descriptions, of which {accepted} are accepted");
+}
+
+/// The first refusal from 6 to 11 for which the tool finds a place is the library's; 12 and 13 have a place whenever they are asked for.
+#[test]
+fn explanations_agree_with_the_library() {
+    let mut random = Random(611);
+    let mut met = [0; 14];
+    for i in 0..100_000 {
+        let silo = description(&mut random, i);
+        let found = |number: &u32| !place::places(Refusal(*number), &silo).is_empty();
+        match (library::answers_length(&silo.to_bytes()), (6..=11).find(found)) {
+            (Err(refusal), Some(number)) => assert_eq!(refusal, Refusal(number), "{silo:?}"),
+            (Err(refusal), None) => assert!(refusal.0 > 11, "{refusal:?} {silo:?}"),
+            (Ok(_), explained) => assert_eq!(explained, None, "{silo:?}"),
+        }
+        met[library::answers_length(&silo.to_bytes()).map_or_else(|refusal| refusal.0, |_| 0)
+            as usize] += 1;
+    }
+    println!("100,000 descriptions, accepted and refused 1 to 13: {met:?}");
+    assert!(met[0] > 1000 && met[6..].iter().all(|count| *count > 0));
+}

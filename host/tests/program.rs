@@ -1,0 +1,133 @@
+//! The program as a person runs it: stored outputs of every sample, files, standard input and output, exit status.
+
+mod common;
+
+use common::{root, stored};
+use std::io::Write;
+use std::path::PathBuf;
+use std::process::{Command, Output, Stdio};
+
+fn silo(arguments: &[&str]) -> Command {
+    let mut command = Command::new(env!("CARGO_BIN_EXE_silo"));
+    command.current_dir(root()).args(arguments);
+    command
+}
+
+fn run(arguments: &[&str]) -> Output {
+    silo(arguments).output().expect("the program runs")
+}
+
+/// A run with that status; what it writes, standard output first.
+fn written(arguments: &[&str], status: i32) -> Vec<u8> {
+    let output = run(arguments);
+    assert_eq!(output.status.code(), Some(status), "{arguments:?}: {output:?}");
+    [output.stdout, output.stderr].concat()
+}
+
+fn fed(arguments: &[&str], input: &[u8]) -> Output {
+    let pipes =
+        silo(arguments).stdin(Stdio::piped()).stdout(Stdio::piped()).stderr(Stdio::piped()).spawn();
+    let mut child = pipes.expect("the program runs");
+    child.stdin.take().expect("a pipe").write_all(input).expect("the input is read");
+    child.wait_with_output().expect("the program ends")
+}
+
+fn scratch(name: &str) -> PathBuf {
+    PathBuf::from(env!("CARGO_TARGET_TMPDIR")).join(name)
+}
+
+const SAMPLES: [(&str, i32); 4] =
+    [("wheat-tower", 0), ("barley-bin", 0), ("cement", 0), ("blank-friction", 1)];
+
+#[test]
+fn samples_as_stored() {
+    let folder = root().join("samples").read_dir().expect("samples");
+    let texts = folder.filter(|file| {
+        file.as_ref().is_ok_and(|file| file.path().extension().is_some_and(|e| e == "silo"))
+    });
+    assert_eq!(texts.count(), SAMPLES.len());
+    for (name, status) in SAMPLES {
+        let file = format!("samples/{name}.silo");
+        stored(&format!("samples/{name}.expected"), &written(&["loads", &file], status));
+    }
+    stored("samples/wheat-tower.csv", &written(&["loads", "samples/wheat-tower.silo", "--csv"], 0));
+    stored("samples/barley-bin.csv", &written(&["loads", "--csv", "samples/barley-bin.silo"], 0));
+    stored("samples/barley-bin.json", &written(&["loads", "samples/barley-bin.silo", "--json"], 0));
+    stored(
+        "samples/wheat-tower.json",
+        &written(&["loads", "samples/wheat-tower.silo", "--json"], 0),
+    );
+    stored("docs/wheat-tower.svg", &written(&["draw", "samples/wheat-tower.silo", "-o", "-"], 0));
+    stored("docs/barley-bin.svg", &written(&["draw", "samples/barley-bin.silo", "-o", "-"], 0));
+}
+
+#[test]
+fn pages_as_stored() {
+    let pages: [(&[&str], i32); 18] = [
+        (&["--version"], 0),
+        (&["--help"], 0),
+        (&["catalogue"], 0),
+        (&["catalogue", "wheat"], 2),
+        (&[], 2),
+        (&["lods", "samples/cement.silo"], 2),
+        (&["loads"], 2),
+        (&["loads", "samples/cement.silo", "samples/cement.silo"], 2),
+        (&["loads", "samples/none.silo"], 2),
+        (&["loads", "samples"], 2),
+        (&["loads", "samples/cement.silo", "--csv", "--json"], 2),
+        (&["loads", "samples/cement.silo", "--xml"], 2),
+        (&["draw", "samples/cement.silo"], 2),
+        (&["draw", "samples/cement.silo", "-o"], 2),
+        (&["draw", "samples/cement.silo", "-o", "samples/none/cement.svg"], 2),
+        (&["sheet", "samples/cement.silo", "-o", "samples/cement.silo"], 2),
+        (&["explain", "samples/cement.silo"], 2),
+        (&["explain", "samples/cement.silo", "--csv"], 2),
+    ];
+    let mut page = Vec::new();
+    for (arguments, status) in pages {
+        page.extend(format!("== silo {}\n", arguments.join(" ")).bytes());
+        page.extend(written(arguments, status));
+    }
+    stored("host/tests/golden/pages.txt", &page);
+}
+
+/// Text to bytes to text and back, through files; bytes give the loads that the text gives.
+#[test]
+fn sheets_of_the_samples() {
+    for (name, status) in SAMPLES {
+        let text = format!("samples/{name}.silo");
+        let [sheet, again] = [scratch(&format!("{name}.sheet")), scratch(&format!("{name}.again"))];
+        let [sheet, again] = [&sheet, &again].map(|path| path.to_str().expect("UTF-8"));
+        written(&["sheet", &text, "-o", sheet], status);
+        let explained = written(&["explain", sheet], 0);
+        stored(&format!("host/tests/golden/{name}.explained"), &explained);
+        let output = fed(&["sheet", "-", "-o", again], &explained);
+        assert_eq!(output.status.code(), Some(status));
+        let bytes = std::fs::read(sheet).expect(sheet);
+        assert_eq!(bytes, std::fs::read(again).expect(again));
+        let [from_text, from_bytes] =
+            [run(&["loads", &text, "--csv"]), fed(&["loads", "-", "--csv"], &bytes)];
+        assert_eq!(from_text.stdout, from_bytes.stdout);
+        assert_eq!(from_text.status, from_bytes.status);
+    }
+}
+
+#[test]
+fn nothing_is_written_for_a_refused_drawing() {
+    let file = scratch("refused.svg");
+    written(&["draw", "samples/blank-friction.silo", "-o", file.to_str().expect("UTF-8")], 1);
+    assert!(!file.exists());
+}
+
+#[test]
+fn a_reader_that_goes_away_is_no_error() {
+    let mut child = silo(&["catalogue"])
+        .stdout(Stdio::piped())
+        .stderr(Stdio::piped())
+        .spawn()
+        .expect("it runs");
+    drop(child.stdout.take());
+    let output = child.wait_with_output().expect("it ends");
+    assert!(output.stderr.is_empty());
+    assert_eq!(output.status.code(), Some(0));
+}

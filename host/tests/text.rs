@@ -1,0 +1,311 @@
+//! The text form: what it says exactly, texts that cannot be read against `golden/bad-text.txt`, and tens of thousands of
+//! damaged texts.
+
+mod common;
+
+use common::{sample, stored, text_with, Random};
+use silo::commands::{self, Format};
+use silo::description::{Description, Product, Section};
+use silo::text::{self, Error};
+
+/// Lines that differ from a readable silo.
+const BAD: [&[(&str, &str)]; 69] = [
+    &[("diameter", "")],
+    &[("diameter", "5000")],
+    &[("diameter", "5,0 m")],
+    &[("diameter", "5,000 mm")],
+    &[("diameter", "1,000,000 mm")],
+    &[("diameter", "5 000 mm")],
+    &[("diameter", "5.0005 m")],
+    &[("diameter", "-5 m")],
+    &[("diameter", "five metres")],
+    &[("diameter", "mm")],
+    &[("diameter", "6.2 mm")],
+    &[("diameter", "5 ft")],
+    &[("diameter", "5 m 3 cm")],
+    &[("diameter", "4294968 m")],
+    &[("diameter", "99999999999999999999 mm")],
+    &[("diameter", "1e3 mm")],
+    &[("diameter", "5..0 m")],
+    &[("diameter", ". m")],
+    &[("diameter", "= 5 m")],
+    &[("diameter", "-")],
+    &[("diameter", "-"), ("sides", "4 m")],
+    &[("diameter", "-"), ("sides", "4 x 5 x 6 m")],
+    &[("diameter", "-"), ("sides", "4 x m")],
+    &[("diameter", "-"), ("sides", "4 m by 6 m")],
+    &[("sides", "4 x 6 m")],
+    &[("diametre", "5 m")],
+    &[("höhe", "5 m")],
+    &[("bottom", "flat")],
+    &[("hopper", "2 m")],
+    &[("outlet", "0")],
+    &[("product", "rape seed")],
+    &[("Diameter", "4 m")],
+    &[("weight", "9")],
+    &[("weight", "9 kg/m3")],
+    &[("weight", "9.00005 kN/m3")],
+    &[("friction", "0.123")],
+    &[("friction", "0,40")],
+    &[("friction", "40 %")],
+    &[("friction", "656")],
+    &[("friction", "low")],
+    &[("friction", "-")],
+    &[("factor", "1.4 kN/m3")],
+    &[("ratio", "-"), ("factor", "-")],
+    &[("product", "wheat")],
+    &[("weight", "-"), ("ratio", "-"), ("friction", "-"), ("factor", "-")],
+    &[
+        ("weight", "-"),
+        ("ratio", "-"),
+        ("friction", "-"),
+        ("factor", "-"),
+        ("product", "weat"),
+        ("wall", "steel"),
+    ],
+    &[
+        ("weight", "-"),
+        ("ratio", "-"),
+        ("friction", "-"),
+        ("factor", "-"),
+        ("product", "gravel"),
+        ("wall", "wood"),
+    ],
+    &[("weight", "-"), ("ratio", "-"), ("friction", "-"), ("factor", "-"), ("product", "wheat")],
+    &[("weight", "-"), ("ratio", "-"), ("friction", "-"), ("factor", "-"), ("wall", "steel")],
+    &[("filling eccentricity", "-"), ("outlet eccentricity", "-")],
+    &[("hopper run", "-")],
+    &[("floor", "flat")],
+    &[("hopper run", "-"), ("hopper height", "-"), ("floor", "conical")],
+    &[("hopper run", "-"), ("hopper height", "-")],
+    &[("strakes", "")],
+    &[("strakes", "5 x 2000")],
+    &[("strakes", "5 x 2000 mm,")],
+    &[("strakes", "5 x 2000 800 mm")],
+    &[("strakes", "2.5 x 2000 mm")],
+    &[("strakes", "0 x 2000 mm")],
+    &[("strakes", "40000 x 2000 mm")],
+    &[("strakes", "65.536 m")],
+    &[("depths", "")],
+    &[("depths", "every 0 mm")],
+    &[("depths", "every -5 m")],
+    &[("depths", "every")],
+    &[("depths", "every 1 mm"), ("strakes", "24 x 3 m")],
+    &[("depths", "every step")],
+    &[("depths", "all")],
+];
+
+/// Texts that no line of `BAD` makes.
+const BROKEN: [&str; 7] = [
+    "diameter 5000 mm\n",
+    "diameter: 5000 mm\n",
+    "\n\n# nothing but a comment\n",
+    "= 5\n",
+    "diameter = 5 m # a comment\ndiameter = 6 m\n",
+    "strakes = 24 x 65 m\ndepths = every 1 mm\n",
+    "depths = 0,500 mm\r\nstrakes = 2,5 m\r\n",
+];
+
+fn unreadable(page: &mut String, text: &str, shown: &str) {
+    let outcome = commands::loads("tower.silo", text.as_bytes(), Format::Table);
+    assert_eq!(outcome.status, 2, "{shown}");
+    *page += &format!("== {shown}\n{}\n", outcome.messages);
+}
+
+#[test]
+fn bad_texts_name_the_line_and_the_mend() {
+    let mut page = String::new();
+    for changes in BAD {
+        let lines = changes.iter().map(|(name, value)| match *value {
+            "-" => format!("no {name}"),
+            value => format!("{name} = {value}"),
+        });
+        let shown = lines.collect::<Vec<String>>().join("; ");
+        unreadable(&mut page, &text_with(changes), &shown);
+    }
+    for text in BROKEN {
+        unreadable(&mut page, text, &format!("{text:?}"));
+    }
+    stored("host/tests/golden/bad-text.txt", page.as_bytes());
+}
+
+#[test]
+fn a_text_that_is_no_utf8_has_a_line() {
+    let outcome = commands::loads("tower.silo", b"# tower\ndiameter = 5 m \xb3\n", Format::Table);
+    assert_eq!(outcome.status, 2);
+    assert_eq!(outcome.messages, "tower.silo:2: not UTF-8 text; save the file as UTF-8\n");
+    let utf_16 = commands::loads("tower.silo", b"\xff\xfed\x00 \x00=\x00", Format::Table);
+    assert_eq!(utf_16.messages, "tower.silo:1: not UTF-8 text; save the file as UTF-8\n");
+}
+
+fn described(changes: &[(&str, &str)]) -> Description {
+    let text = text_with(changes);
+    text::read(&text).unwrap_or_else(|errors| panic!("{text}{errors:?}")).description
+}
+
+#[test]
+fn lengths_are_exact() {
+    let lengths = [
+        ("5000 mm", 5000),
+        ("5000mm", 5000),
+        ("5 M", 5000),
+        ("5.000 m", 5000),
+        ("5.001 m", 5001),
+        ("0.7 cm", 7),
+        (".5 m", 500),
+        ("5. m", 5000),
+        ("0", 0),
+        ("0.0", 0),
+        ("000500 cm", 5000),
+        ("4294967.295 m", u32::MAX),
+        ("4294967295 mm", u32::MAX),
+    ];
+    for (written, expected) in lengths {
+        assert_eq!(
+            described(&[("diameter", written)]).section,
+            Section::Circle(expected),
+            "{written}"
+        );
+    }
+}
+
+#[test]
+fn products_are_exact() {
+    let changes =
+        [("weight", "8.765 kN/m³"), ("ratio", ".2"), ("friction", "655.35"), ("factor", "")];
+    let product = described(&changes).product;
+    assert_eq!(product, Product { weight: 8765, ratio: 20, friction: 65535, factor: 0 });
+    let four = ["weight", "ratio", "friction", "factor"].map(|name| (name, "-"));
+    let named = [&four[..], &[("product", "Dry_Sand"), ("wall", "CONCRETE")]].concat();
+    assert_eq!(Product::from_catalogue(3, 1), Ok(described(&named).product));
+}
+
+#[test]
+fn lists_are_exact() {
+    let strakes = [
+        ("8 x 1200 mm", vec![1200; 8]),
+        ("2x1.2m, 900 mm", vec![1200, 1200, 900]),
+        ("1200; 2 × 90, 3 * 80 cm", vec![12000, 900, 900, 800, 800, 800]),
+        ("0 x 7 mm, 0", vec![0]),
+    ];
+    for (written, expected) in strakes {
+        assert_eq!(described(&[("strakes", written)]).strakes, expected, "{written}");
+    }
+    let depths = [
+        ("0, 0.5, 1 m", vec![0, 500, 1000]),
+        ("0 mm, 0.5 m, 3 m", vec![0, 500, 3000]),
+        ("7000, 10, 10 mm", vec![7000, 10, 10]),
+        ("every 4 m", vec![0, 4000, 8000, 10000]),
+        ("every 5000 mm", vec![0, 5000, 10000]),
+        ("every 20 m", vec![0, 10000]),
+        ("Every 5 m", vec![0, 5000, 10000]),
+        ("Strake edges", vec![0, 2000, 4000, 6000, 8000, 10000]),
+        ("at strake edges", vec![0, 2000, 4000, 6000, 8000, 10000]),
+    ];
+    for (written, expected) in depths {
+        assert_eq!(described(&[("depths", written)]).depths, expected, "{written}");
+    }
+}
+
+#[test]
+fn editors_and_spacing_make_no_difference() {
+    let plain = described(&[]);
+    let text = text_with(&[]);
+    let windows = format!("\u{feff}# tower\r\n{}", text.replace('\n', "\r\n"));
+    let spaced = text.replace(" = ", "=").replace("diameter", "\t DIAMETER ");
+    let backwards: Vec<&str> = text.lines().rev().collect();
+    for changed in [windows, spaced, backwards.join("\n")] {
+        assert_eq!(text::read(&changed).expect(&changed).description, plain);
+    }
+}
+
+const WORDS: [&str; 24] = [
+    "diameter",
+    "sides",
+    "product",
+    "wall",
+    "weight",
+    "friction",
+    "floor",
+    "hopper run",
+    "strakes",
+    "depths",
+    "every",
+    "strake edges",
+    "mm",
+    "kN/m3",
+    " x ",
+    " = ",
+    "0.40",
+    "99999999999",
+    "1,5",
+    "-",
+    "\u{b3}",
+    "#",
+    "\n",
+    "\u{feff}",
+];
+
+/// One to four damages: letters left out, exchanged or put in, words put in, lines doubled or left out.
+fn damaged(random: &mut Random, text: &str) -> String {
+    let mut letters: Vec<char> = text.chars().collect();
+    for _ in 0..1 + random.below(4) {
+        let at = random.below(letters.len().max(1)).min(letters.len());
+        match random.below(7) {
+            0 if at < letters.len() => drop(letters.remove(at)),
+            1 if at < letters.len() => {
+                letters[at] = random.of(&['0', '9', '.', ',', '=', 'x', ' ', '\n', 'é'])
+            }
+            2 => letters
+                .insert(at, random.of(&['1', '-', '+', 'm', ';', '\t', '\r', '\u{2009}', '×'])),
+            3 => drop(letters.splice(at..at, random.of(&WORDS).chars())),
+            4 => letters.truncate(at),
+            5 => {
+                let end = (at + random.below(30)).min(letters.len());
+                drop(letters.splice(at..end, random.of(&WORDS).chars()));
+            }
+            _ => {
+                let line: String = letters[at..].iter().take_while(|c| **c != '\n').collect();
+                letters.extend("\n".chars().chain(line.chars()));
+            }
+        }
+    }
+    letters.into_iter().collect()
+}
+
+fn names_a_line(error: &Error, lines: usize) -> bool {
+    match error.line {
+        Some(line) => (1..=lines).contains(&line),
+        None => error.message.starts_with("no line for "),
+    }
+}
+
+#[test]
+fn damaged_texts_give_errors_with_lines_and_never_a_panic() {
+    let mut random = Random(71_019_914);
+    let names = ["wheat-tower.silo", "barley-bin.silo", "cement.silo", "blank-friction.silo"];
+    let texts = names.map(|name| String::from_utf8(sample(name)).expect(name));
+    let (mut read, mut unread, mut accepted) = (0, 0, 0);
+    for i in 0..60_000 {
+        let text = damaged(&mut random, &texts[i % texts.len()]);
+        match text::read(&text) {
+            Ok(silo) => {
+                read += 1;
+                let sheet = silo.description.to_bytes();
+                let outcome = commands::loads("damaged.silo", text.as_bytes(), Format::Table);
+                let refused = silo::library::answers_length(&sheet).is_err();
+                assert_eq!(outcome.status, u8::from(refused), "{text}");
+                accepted += u32::from(!refused);
+            }
+            Err(errors) => {
+                unread += 1;
+                assert!(!errors.is_empty(), "{text}");
+                let lines = text.lines().count();
+                let named = errors.iter().all(|error| names_a_line(error, lines));
+                assert!(named, "{errors:?}\n{text}");
+            }
+        }
+    }
+    println!("60,000 damaged texts: {unread} not read, {read} read, {accepted} accepted");
+    assert!(read > 1000 && unread > 1000 && accepted > 1000);
+}
