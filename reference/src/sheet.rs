@@ -63,7 +63,7 @@ impl Silo {
     }
 }
 
-fn record(kind: u16, payload: Vec<u8>) -> Vec<u8> {
+pub fn record(kind: u16, payload: Vec<u8>) -> Vec<u8> {
     let length = payload.len() as u16;
     [&length.to_le_bytes()[..], &kind.to_le_bytes(), &payload].concat()
 }

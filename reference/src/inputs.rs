@@ -44,6 +44,23 @@ impl Random {
     }
 }
 
+/// The silo of document 01's cases: circle 5,000, γ 9,000, Ks 50, μ 40, C0 140, e 0, flat; five strakes of 2,000; depths 0 and 5,000.
+pub fn sample() -> Silo {
+    Silo {
+        section: vec![5_000],
+        weight: 9_000,
+        ratio: 50,
+        friction: 40,
+        factor: 140,
+        e_i: 0,
+        e_o: 0,
+        hopper_height: 0,
+        run: 0,
+        strakes: vec![2_000; 5],
+        depths: vec![0, 5_000],
+    }
+}
+
 /// A silo that is accepted.
 pub fn silo(random: &mut Random) -> Silo {
     loop {
