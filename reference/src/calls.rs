@@ -1,12 +1,17 @@
 //! The calls of `include/silo.h`, made with memory that has canaries on both sides.
 
 use std::fmt;
+use std::ptr::slice_from_raw_parts_mut;
 
-/// What is compared: the proved library, or a stand-in for it.
+/// What is compared: the proved library, or a stand-in for it. Memory is lent by pointers, so that nothing is taken for granted of what a
+/// call does to it.
+///
+/// # Safety
+/// Each pointer is to that many elements, and none overlaps another.
 pub trait Library {
-    fn loads(&self, sheet: &[u8], answers: &mut [u32]) -> u32;
-    fn answers_length(&self, sheet: &[u8]) -> u64;
-    fn catalogue(&self, row: u32, wall: u32, record: &mut [u8]) -> u32;
+    unsafe fn loads(&self, sheet: *const [u8], answers: *mut [u32]) -> u32;
+    unsafe fn answers_length(&self, sheet: *const [u8]) -> u64;
+    unsafe fn catalogue(&self, row: u32, wall: u32, record: *mut [u8]) -> u32;
 }
 
 /// What a call did that document 01 does not allow, and the bytes of its sheet.
@@ -54,18 +59,22 @@ impl Calls<'_> {
         &self,
         canary: T,
         before: &[T],
-        call: impl FnOnce(&mut [T]) -> A,
+        call: impl FnOnce(*mut [T]) -> A,
     ) -> (A, Vec<T>, bool) {
         let beside = vec![canary; self.canaries];
         let mut memory = [&beside, before, &beside].concat();
-        let inside = self.canaries..self.canaries + before.len();
-        let answer = call(&mut memory[inside.clone()]);
-        let after = memory[inside].to_vec();
-        let (left, right) = (&memory[..self.canaries], &memory[self.canaries + before.len()..]);
-        (answer, after, left == beside && right == beside)
+        let start = memory.as_mut_ptr().wrapping_add(self.canaries);
+        let answer = call(slice_from_raw_parts_mut(start, before.len()));
+        let (left, rest) = memory.split_at(self.canaries);
+        let (after, right) = rest.split_at(before.len());
+        (answer, after.to_vec(), left == beside && right == beside)
     }
 
-    fn lend_sheet<A>(&self, sheet: &[u8], call: impl FnOnce(&[u8]) -> A) -> Result<A, Difference> {
+    fn lend_sheet<A>(
+        &self,
+        sheet: &[u8],
+        call: impl FnOnce(*const [u8]) -> A,
+    ) -> Result<A, Difference> {
         let (answer, after, spared) = self.lend(UNTOUCHED_BYTE, sheet, |lent| call(lent));
         expect(spared && after == sheet, sheet, || "the sheet was written to".into())?;
         Ok(answer)
@@ -73,15 +82,18 @@ impl Calls<'_> {
 
     /// The load call's answer, and the list of that length after it.
     pub fn loads(&self, sheet: &[u8], length: usize) -> Result<(u32, Vec<u32>), Difference> {
-        let (answer, list, spared) = self.lend_sheet(sheet, |lent| {
-            self.lend(UNTOUCHED, &vec![UNTOUCHED; length], |list| self.library.loads(lent, list))
+        let before = vec![UNTOUCHED; length];
+        let (answer, list, spared) = self.lend_sheet(sheet, |sheet| {
+            // SAFETY: both are lent whole, from memory of their own.
+            self.lend(UNTOUCHED, &before, |list| unsafe { self.library.loads(sheet, list) })
         })?;
         expect(spared, sheet, || format!("numbers beside the list of {length} were written to"))?;
         Ok((answer, list))
     }
 
     pub fn answers_length(&self, sheet: &[u8]) -> Result<u64, Difference> {
-        self.lend_sheet(sheet, |lent| self.library.answers_length(lent))
+        // SAFETY: the sheet is lent whole.
+        self.lend_sheet(sheet, |sheet| unsafe { self.library.answers_length(sheet) })
     }
 
     /// The catalogue call's answer, and the buffer of that length after it.
@@ -92,8 +104,9 @@ impl Calls<'_> {
         length: usize,
     ) -> Result<(u32, Vec<u8>), Difference> {
         let before = vec![UNTOUCHED_BYTE; length];
-        let (answer, buffer, spared) =
-            self.lend(UNTOUCHED_BYTE, &before, |buffer| self.library.catalogue(row, wall, buffer));
+        // SAFETY: the buffer is lent whole.
+        let call = |buffer| unsafe { self.library.catalogue(row, wall, buffer) };
+        let (answer, buffer, spared) = self.lend(UNTOUCHED_BYTE, &before, call);
         expect(spared, &[], || format!("bytes beside the buffer of {length} were written to"))?;
         Ok((answer, buffer))
     }

@@ -130,7 +130,11 @@ pub fn depths(random: &mut Random, silo: &Silo) -> Vec<u64> {
             0 => random.below(foot.min(64)),
             1 => random.pick(&silo.edges()),
             2 => depths.last().map_or(0, |depth| depth + 1),
-            3 => just_above_whole(random, silo),
+            3 => {
+                let load = random.below(4);
+                let some = (0..2_000).map(|_| 1 + random.below(foot));
+                just_above_whole(silo, load, some)
+            }
             _ => random.within(0, foot),
         };
         depths.push(depth.min(foot));
@@ -140,13 +144,12 @@ pub fn depths(random: &mut Random, silo: &Silo) -> Vec<u64> {
     depths
 }
 
-/// Of many depths, the one where a pressure or P_w is the least above a whole number: what is rounded down a little there is below
-/// its exact value.
-fn just_above_whole(random: &mut Random, silo: &Silo) -> u64 {
+/// Of some depths, the one where a load is the least above a whole number: p_hf, p_vf, p_wf or P_w. What is rounded down a little there is
+/// below its exact value. Doubles are good enough to choose by.
+fn just_above_whole(silo: &Silo, load: u64, depths: impl Iterator<Item = u64>) -> u64 {
     let (a, b) = (silo.a() as f64, silo.b() as f64);
     let (ratio, friction) = (silo.ratio as f64 / 100.0, silo.friction as f64 / 100.0);
     let radius = a * b / (a + b) / 2_000.0;
-    let load = random.below(4);
     let (ratio, friction) = match load {
         0 => (1.15 * ratio, 0.9 * friction),
         1 => (0.9 * ratio, 0.9 * friction),
@@ -164,9 +167,26 @@ fn just_above_whole(random: &mut Random, silo: &Silo) -> u64 {
                 _ => radius * (z - z0 * bracket),
             }
     };
-    let candidates = (0..2_000).map(|_| 1 + random.below(silo.foot()));
-    let nearest = candidates.map(|depth| (value(depth).fract(), depth));
+    let nearest = depths.map(|depth| (value(depth).fract(), depth));
     nearest.min_by(|one, other| one.0.total_cmp(&other.0)).map_or(0, |(_, depth)| depth)
+}
+
+/// A wide and high silo with heavy contents and little friction, where an error in e^-q counts most, at the depths where each load is the
+/// least above a whole number among all millimetres.
+pub fn heavy(random: &mut Random) -> Silo {
+    let mut silo = Silo {
+        section: vec![random.within(20_000, 48_000)],
+        weight: random.within(25_000, 30_000),
+        ratio: random.within(20, 100),
+        friction: random.within(10, 14),
+        factor: random.within(100, 200),
+        strakes: vec![3_000; 24],
+        ..sample()
+    };
+    silo.depths = (0..4).map(|load| just_above_whole(&silo, load, 1..=silo.foot())).collect();
+    silo.depths.sort();
+    silo.depths.dedup();
+    silo
 }
 
 /// Another accepted silo with the same section and product, and depths beside the first one's.

@@ -19,9 +19,13 @@ pub fn table(comparison: &mut Comparison, sheets: &[Due]) -> Outcome {
     Ok(())
 }
 
-/// Random accepted silos.
+/// Random accepted silos, one in 32 of them heavy.
 pub fn accepted(comparison: &mut Comparison, random: &mut Random, count: u64) -> Outcome {
-    (0..count).try_for_each(|_| comparison.accepted(&inputs::silo(random)))
+    (0..count).try_for_each(|_| {
+        let heavy = random.one_in(32);
+        let silo = if heavy { inputs::heavy(random) } else { inputs::silo(random) };
+        comparison.accepted(&silo)
+    })
 }
 
 /// Random silos, each beside another one with its section and product.

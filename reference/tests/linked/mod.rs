@@ -7,17 +7,16 @@ use reference::calls::Library;
 
 pub struct Linked;
 
-// SAFETY of the three: a pointer comes with the length of its own slice, and no two slices overlap.
 impl Library for Linked {
-    fn loads(&self, sheet: &[u8], answers: &mut [u32]) -> u32 {
-        unsafe { c::silo_loads(sheet.as_ptr(), sheet.len(), answers.as_mut_ptr(), answers.len()) }
+    unsafe fn loads(&self, sheet: *const [u8], answers: *mut [u32]) -> u32 {
+        c::silo_loads(sheet.cast(), sheet.len(), answers.cast(), answers.len())
     }
 
-    fn answers_length(&self, sheet: &[u8]) -> u64 {
-        unsafe { c::silo_answers_length(sheet.as_ptr(), sheet.len()) }
+    unsafe fn answers_length(&self, sheet: *const [u8]) -> u64 {
+        c::silo_answers_length(sheet.cast(), sheet.len())
     }
 
-    fn catalogue(&self, row: u32, wall: u32, record: &mut [u8]) -> u32 {
-        unsafe { c::silo_catalogue(row, wall, record.as_mut_ptr(), record.len()) }
+    unsafe fn catalogue(&self, row: u32, wall: u32, record: *mut [u8]) -> u32 {
+        c::silo_catalogue(row, wall, record.cast(), record.len())
     }
 }
