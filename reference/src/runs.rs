@@ -45,3 +45,13 @@ pub fn damaged(comparison: &mut Comparison, random: &mut Random, count: u64) -> 
         comparison.sheet(&bytes, &[length])
     })
 }
+
+/// Damaged sheets for each accepted one of a round.
+const DAMAGED: u64 = 40;
+
+/// A round of the long run: an accepted silo, a pair, and damaged sheets.
+pub fn round(comparison: &mut Comparison, random: &mut Random) -> Outcome {
+    accepted(comparison, random, 1)?;
+    pairs(comparison, random, 1)?;
+    damaged(comparison, random, DAMAGED)
+}

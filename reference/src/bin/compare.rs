@@ -13,8 +13,6 @@ use reference::inputs::Random;
 use reference::runs;
 use std::process::ExitCode;
 
-/// Damaged sheets for each random silo.
-const DAMAGED: u64 = 40;
 /// Sheets between two lines of progress.
 const PROGRESS: u64 = 1_000_000;
 
@@ -22,9 +20,7 @@ fn run(comparison: &mut Comparison, sheets: u64, seed: u64) -> Outcome {
     let mut random = Random::new(seed);
     let mut next = PROGRESS;
     while comparison.tally.sheets() < sheets {
-        runs::accepted(comparison, &mut random, 1)?;
-        runs::pairs(comparison, &mut random, 1)?;
-        runs::damaged(comparison, &mut random, DAMAGED)?;
+        runs::round(comparison, &mut random)?;
         if comparison.tally.sheets() >= next {
             println!("{} sheets", comparison.tally.sheets());
             next += PROGRESS;
