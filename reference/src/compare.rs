@@ -10,7 +10,6 @@ use crate::formulas::{self, Filling};
 use crate::fraction::{fraction, least, whole, Fraction, Real};
 use crate::sheet::{parse, Silo};
 use std::fmt;
-use std::ops::RangeInclusive;
 
 /// What was compared.
 #[derive(Default)]
@@ -67,7 +66,7 @@ impl<'a> Comparison<'a> {
     }
 
     /// Prints what was compared; an accepted sheet and each of these refusals have to be among it.
-    pub fn report(&self, refusals: RangeInclusive<usize>) {
+    pub fn report(&self, refusals: impl IntoIterator<Item = usize>) {
         println!("{}", self.tally);
         assert!(self.tally.accepted > 0, "no sheet was accepted");
         for number in refusals {
