@@ -1,10 +1,12 @@
 //! What is compared in one go: tables of sheets with the number due, and random sheets of each kind.
 
-use crate::calls::{expect, Outcome};
+use crate::calls::{expect, Difference, Outcome};
+use crate::catalogue::TABLE;
 use crate::compare::Comparison;
 use crate::inputs::{self, Random};
 use crate::limits::Due;
 use crate::sheet::parse;
+use std::collections::BTreeMap;
 
 /// Lengths of the lists that a refused sheet is lent with: none, one, the sample's, and the longest there is.
 const LISTS: [usize; 4] = [0, 1, 31, 1_634];
@@ -54,4 +56,19 @@ pub fn round(comparison: &mut Comparison, random: &mut Random) -> Outcome {
     accepted(comparison, random, 1)?;
     pairs(comparison, random, 1)?;
     damaged(comparison, random, DAMAGED)
+}
+
+/// The catalogue call for every row and wall, for some that are not there, and for buffers of several lengths; tells how many calls had
+/// each answer.
+pub fn catalogue(comparison: &Comparison) -> Result<BTreeMap<u32, u64>, Difference> {
+    let mut calls = BTreeMap::new();
+    let rows = (0..TABLE.len() as u32 + 3).chain([255, 256, 1 << 16, 1 << 31, u32::MAX]);
+    for row in rows {
+        for wall in [0, 1, 2, 3, 256, 1 << 16, u32::MAX] {
+            for length in [14, 0, 1, 13, 15, 28] {
+                *calls.entry(comparison.catalogue(row, wall, length)?).or_insert(0) += 1;
+            }
+        }
+    }
+    Ok(calls)
 }
