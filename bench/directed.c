@@ -130,11 +130,9 @@ static void fill(const struct silo *s, const struct curve curves[3], const struc
 
 uint32_t directed_loads(const uint8_t *sheet, size_t sheet_len, uint32_t *answers, size_t answers_len) {
     struct silo s;
-    uint32_t refusal = read_sheet(sheet, sheet_len, &s);
+    uint32_t refusal = read_call(sheet, sheet_len, answers_len, &s);
     if (refusal != 0)
         return refusal;
-    if (answers_len != answers_length(&s))
-        return 14;
     struct curve curves[3];
     struct wall wall;
     prepare(&s, curves, &wall);

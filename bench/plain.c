@@ -44,11 +44,9 @@ static void plain_bottom(const struct silo *s, double radius, double p_vf, uint3
 
 uint32_t plain_loads(const uint8_t *sheet, size_t sheet_len, uint32_t *answers, size_t answers_len) {
     struct silo s;
-    uint32_t refusal = read_sheet(sheet, sheet_len, &s);
+    uint32_t refusal = read_call(sheet, sheet_len, answers_len, &s);
     if (refusal != 0)
         return refusal;
-    if (answers_len != answers_length(&s))
-        return 14;
     double radius = (double)s.a * s.b / (2e3 * ((double)s.a + s.b)), ratio = s.ratio / 1e2, friction = s.friction / 1e2;
     const struct curve curves[3] = {
         {s.weight * radius / (0.9 * friction), radius / (1.15 * ratio * 0.9 * friction)},

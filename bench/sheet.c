@@ -117,6 +117,11 @@ uint32_t read_sheet(const uint8_t *sheet, size_t length, struct silo *s) {
     return refusal;
 }
 
+uint32_t read_call(const uint8_t *sheet, size_t sheet_len, size_t answers_len, struct silo *s) {
+    uint32_t refusal = read_sheet(sheet, sheet_len, s);
+    return refusal == 0 && answers_len != answers_length(s) ? 14 : refusal;
+}
+
 size_t answers_length(const struct silo *s) {
     return COLUMNS * (size_t)s->depth_count + BOTTOM + s->strake_count;
 }

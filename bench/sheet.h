@@ -18,6 +18,9 @@ struct silo {
 /* The refusal, 1 to 13, or 0 with the silo's numbers, a factor of 0 read as 135. */
 uint32_t read_sheet(const uint8_t *sheet, size_t length, struct silo *s);
 
+/* The same with refusal 14 as well, for a list of that length. */
+uint32_t read_call(const uint8_t *sheet, size_t sheet_len, size_t answers_len, struct silo *s);
+
 size_t answers_length(const struct silo *s);
 
 /* V, the sum of the strakes. */
