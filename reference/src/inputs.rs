@@ -83,10 +83,7 @@ fn candidate(random: &mut Random) -> Silo {
     let longer = random.within(shorter, 50_000);
     let section = random.pick(&[vec![shorter], vec![shorter, longer], vec![longer, shorter]]);
     let d_c = shorter;
-    let flat = random.one_in(2);
-    let run = if flat { 0 } else { random.within(1, (d_c - 1) / 2) };
-    let flattest = (363_971 * run).div_ceil(1_000_000);
-    let hopper_height = if flat { 0 } else { random.within(flattest, 25_000) };
+    let (hopper_height, run) = hopper(random, d_c);
     let strakes = wall(random, d_c, hopper_height);
     let eccentricity = [0, random.within(0, d_c / 4), random.within(0, d_c / 4)];
     Silo {
@@ -102,6 +99,18 @@ fn candidate(random: &mut Random) -> Silo {
         strakes,
         depths: vec![],
     }
+}
+
+/// Height and run: a flat floor, any hopper, or one of a few millimetres, where loads are often whole numbers before any rounding.
+fn hopper(random: &mut Random, d_c: u64) -> (u64, u64) {
+    let (longest, highest) = match random.below(8) {
+        0..=3 => return (0, 0),
+        4 => (4, 8),
+        _ => ((d_c - 1) / 2, 25_000),
+    };
+    let run = random.within(1, longest);
+    let flattest = (363_971 * run).div_ceil(1_000_000);
+    (random.within(flattest, highest), run)
 }
 
 /// Strakes that make h slender, where 24 of them can.

@@ -129,13 +129,19 @@ fn eccentricities() -> Vec<(Silo, u64)> {
     silos
 }
 
-/// Rule 9: the flattest hopper and the next below it, for many runs; and the longest run for an odd and an even d_c.
+/// Rule 9: the flattest hopper and the next below it, for many runs, and for those where 1,000,000·H comes closest to 363,971·r on either
+/// side; and the longest run for an odd and an even d_c.
 fn slopes() -> Vec<(Silo, u64)> {
     let mut silos = Vec::new();
-    for run in (1..2_500u64).step_by(49) {
+    let mut runs: Vec<u64> = (1..25_000).collect();
+    runs.sort_by_key(|run| 363_971 * run % 1_000_000);
+    let closest = [&runs[..20], &runs[runs.len() - 20..]].concat();
+    for run in (1..2_500).step_by(49).chain(closest) {
         let flattest = (363_971 * run).div_ceil(1_000_000);
+        let d_c = (2 * run + 1).max(5_000);
         for (height, due) in [(flattest - 1, 9), (flattest, 0)] {
-            silos.push((Silo { hopper_height: height, run, ..sample() }, due));
+            let all = (2 * d_c).min(72_000) + height;
+            silos.push((of_height(&[d_c], all, (height, run)), due));
         }
     }
     for (d_c, longest) in [(5_000, 2_499), (5_001, 2_500), (5_002, 2_500)] {
