@@ -2,16 +2,23 @@
 
 use crate::sheet::{parse, Silo};
 
+/// What `within` gives: any number, and each end one time in eight; an end alone; or a round number where there is one.
+#[derive(Clone, Copy)]
+enum Numbers {
+    Any,
+    Ends,
+    Round,
+}
+
 /// Numbers that are the same on every run (splitmix64).
 pub struct Random {
     state: u64,
-    /// `within` gives ends alone.
-    ends: bool,
+    numbers: Numbers,
 }
 
 impl Random {
     pub fn new(seed: u64) -> Random {
-        Random { state: seed, ends: false }
+        Random { state: seed, numbers: Numbers::Any }
     }
 
     fn next(&mut self) -> u64 {
@@ -30,18 +37,27 @@ impl Random {
         self.below(n) == 0
     }
 
-    /// From low to high, and each end one time in eight.
+    /// From low to high.
     fn within(&mut self, low: u64, high: u64) -> u64 {
-        match self.below(if self.ends { 2 } else { 8 }) {
-            0 => low,
-            1 => high,
-            _ => low + self.below(high - low + 1),
+        let any = low + self.below(high - low + 1);
+        match (self.numbers, self.below(8)) {
+            (Numbers::Ends, n) => [low, high][n as usize % 2],
+            (Numbers::Round, _) => round(any, low),
+            (Numbers::Any, 0) => low,
+            (Numbers::Any, 1) => high,
+            (Numbers::Any, _) => any,
         }
     }
 
     fn pick<T: Clone>(&mut self, of: &[T]) -> T {
         of[self.below(of.len() as u64) as usize].clone()
     }
+}
+
+/// The roundest number from low to n: thousands, else hundreds, else tens, else n.
+fn round(n: u64, low: u64) -> u64 {
+    let rounded = [1_000, 100, 10].map(|unit| n - n % unit);
+    rounded.into_iter().find(|round| *round >= low.max(1)).unwrap_or(n)
 }
 
 /// The silo of document 01's cases: circle 5,000, γ 9,000, Ks 50, μ 40, C0 140, e 0, flat; five strakes of 2,000; depths 0 and 5,000.
@@ -64,9 +80,13 @@ pub fn sample() -> Silo {
 /// A silo that is accepted.
 pub fn silo(random: &mut Random) -> Silo {
     loop {
-        random.ends = random.one_in(8);
+        random.numbers = match random.below(8) {
+            0 => Numbers::Ends,
+            1 => Numbers::Round,
+            _ => Numbers::Any,
+        };
         let mut silo = candidate(random);
-        random.ends = false;
+        random.numbers = Numbers::Any;
         silo.depths = depths(random, &silo);
         if parse(&silo.sheet()) == Ok(silo.clone()) {
             return silo;

@@ -68,9 +68,10 @@ const ECCENTRICITIES: &[(u64, u64)] =
     &[(0, 0), (1_249, 0), (1_250, 0), (1_251, 8), (1 << 30, 8), ((1 << 30) + 1, 8), (MAX, 8)];
 
 pub fn sheets() -> Vec<Due> {
-    let silos = [numbers(), sides(), eccentricities(), slopes(), strakes(), depths(), shapes()];
-    let silos = silos.concat().into_iter().map(|(silo, due)| (silo.sheet(), due));
-    silos.chain(cut_or_extended()).chain(kinds()).chain(lengths()).collect()
+    let values = [numbers(), sides(), eccentricities(), slopes(), strakes(), depths(), shapes()];
+    let silos = values.concat().into_iter().chain(whole_loads());
+    let sheets = silos.map(|(silo, due)| (silo.sheet(), due));
+    sheets.chain(cut_or_extended()).chain(kinds()).chain(lengths()).collect()
 }
 
 fn numbers() -> Vec<(Silo, u64)> {
@@ -216,6 +217,16 @@ fn shapes() -> Vec<(Silo, u64)> {
         silos.push((of_height(&[9_699], height, (24_995, 1_000)), due));
     }
     silos
+}
+
+/// No rule's limit but a rounding's: 3·R·γ·1.15·Ks·sin²α is a whole number, 1,725 for each 1,000 N/m³, and so is 1.0·p_hf.
+fn whole_loads() -> Vec<(Silo, u64)> {
+    let hoppers = [1, 2, 1_000, 2_000, 3_000];
+    let silo = |weight: u64, size: u64| {
+        let silo = of_height(&[8_000], 20_000, (size, size));
+        (Silo { weight: 1_000 * weight, factor: 100, ..silo }, 0)
+    };
+    (1..=30).flat_map(|weight| hoppers.map(|size| silo(weight, size))).collect()
 }
 
 /// Rules 1, 2 and 5: every sheet cut short, the whole one, and longer ones.
