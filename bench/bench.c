@@ -54,8 +54,8 @@ static double timed(loads *program, const struct sheet *sheet, int calls) {
 
 static void compare(const char *name, const struct sheet *sheet, int calls) {
     static double to_plain[ROUNDS], directed_to_plain[ROUNDS], directed_to_ours[ROUNDS];
+    double times[PROGRAMS];
     for (int round = 0; round < ROUNDS; round++) {
-        double times[PROGRAMS];
         for (int i = 0; i < PROGRAMS; i++)
             times[i] = timed(PROGRAM[i], sheet, calls);
         to_plain[round] = times[0] / times[1];
@@ -82,8 +82,8 @@ static void compare_accepted(void) {
     for (size_t i = 0; i < sizeof DEPTHS / sizeof *DEPTHS; i++) {
         char name[32];
         struct sheet sheet = sheet_of(tower((uint32_t)DEPTHS[i], MAX_STRAKES), 0);
-        snprintf(name, sizeof name, "%d depths", DEPTHS[i]);
-        compare(name, &sheet, 10);
+        snprintf(name, sizeof name, "accepted, depths: %d", DEPTHS[i]);
+        compare(name, &sheet, 2000 / (DEPTHS[i] + 10));
     }
 }
 
@@ -108,7 +108,7 @@ int main(void) {
     printf("ratios of times, medians of %d rounds in turns; 24 strakes, a hopper\n", ROUNDS);
     printf("%-28s %8s %8s %8s\n", "", "ours/f64", "MPFR/f64", "MPFR/ours");
     compare_accepted();
-    puts("refused sheets of 200 depths");
+    puts("refused, depths: 200");
     compare_refused();
     return 0;
 }
