@@ -1,5 +1,5 @@
-/* calls DEPTHS COUNT: calls silo_loads that often and prints nothing.
- * calls DEPTHS: prints the stack of one call in bytes: it paints a stack, calls on it and finds the lowest byte written. */
+/* calls DEPTHS STRAKES COUNT: calls silo_loads that often and prints nothing.
+ * calls DEPTHS STRAKES: prints the stack of one call in bytes: it paints a stack, calls on it and finds the lowest byte written. */
 #include "sheet.h"
 #include "silo.h"
 #include <stdio.h>
@@ -9,7 +9,7 @@
 
 enum { STACK = 1 << 20, PAINT = 0xA5 };
 
-static uint8_t stack[STACK], sheet[1024];
+static uint8_t stack[STACK], sheet[MAX_SHEET];
 static uint32_t answers[MAX_ANSWERS];
 static size_t sheet_length, list_length;
 static uint32_t answer;
@@ -38,15 +38,15 @@ static size_t stack_of(void (*function)(void)) {
 }
 
 int main(int argc, char **argv) {
-    if (argc < 2)
+    if (argc < 3)
         return 2;
-    struct silo s = tower((uint32_t)atoi(argv[1]));
+    struct silo s = tower((uint32_t)atoi(argv[1]), (uint32_t)atoi(argv[2]));
     sheet_length = write_sheet(&s, sheet);
     list_length = answers_length(&s);
-    if (argc == 2)
+    if (argc == 3)
         printf("%zu\n", stack_of(one_call) - stack_of(nothing));
     else
-        for (int i = atoi(argv[2]); i > 0; i--)
+        for (int i = atoi(argv[3]); i > 0; i--)
             one_call();
     return (int)answer;
 }

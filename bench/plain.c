@@ -1,48 +1,65 @@
-/* The loads of document 01 in plain double arithmetic, for comparison of times only. */
+/* The loads of document 01 in double arithmetic with libm, for comparison of times only. */
 #include "sheet.h"
 #include <math.h>
 
-/* P·(1 - e^(-z/z0)), rounded up. */
-static double pressure(double factor, double z0, double z) {
-    return ceil(factor * (1 - exp(-z / z0)));
+/* P, and z0 in m. */
+struct curve {
+    double limit, z0;
+};
+
+static double pressure(struct curve curve, double z) {
+    return ceil(curve.limit * (1 - exp(-z / curve.z0)));
 }
 
-void plain_loads(const struct silo *s, uint32_t *answers) {
-    double radius = s->diameter / 4e3, weight = s->weight, ratio = s->ratio / 1e2, friction = s->friction / 1e2;
-    double factor = s->factor / 1e2, e = s->e_i > s->e_o ? s->e_i : s->e_o, patch = 0.2 * (1 + 4 * e / s->diameter);
-    double z0_h = radius / (1.15 * ratio * 0.9 * friction), factor_h = weight * radius / (0.9 * friction);
-    double z0_v = radius / (0.9 * ratio * 0.9 * friction), factor_v = factor_h / (0.9 * ratio);
-    double z0_w = radius / (1.15 * ratio * 1.15 * friction), factor_w = weight * radius;
+static void plain_row(const struct silo *s, uint32_t depth, const struct curve curves[3], uint32_t *row) {
+    double d_c = s->a < s->b ? s->a : s->b, e = s->e_i > s->e_o ? s->e_i : s->e_o;
+    double z = depth / 1e3, bracket = 1 - exp(-z / curves[2].z0);
+    double p_hf = pressure(curves[0], z), p_wf = ceil(curves[2].limit * bracket), p_he = ceil(s->factor / 1e2 * p_hf);
+    row[0] = depth;
+    row[1] = (uint32_t)p_hf;
+    row[2] = (uint32_t)p_wf;
+    row[3] = (uint32_t)pressure(curves[1], z);
+    row[4] = (uint32_t)ceil(curves[2].limit * (z - curves[2].z0 * bracket));
+    row[5] = (uint32_t)p_he;
+    row[6] = (uint32_t)ceil(1.1 * p_wf);
+    row[7] = (uint32_t)ceil(0.2 * (1 + 4 * e / d_c) * p_he);
+}
 
-    for (uint32_t i = 0; i < s->depth_count; i++) {
-        double z = s->depths[i] / 1e3, bracket_w = 1 - exp(-z / z0_w);
-        double p_hf = pressure(factor_h, z0_h, z), p_wf = ceil(factor_w * bracket_w), p_he = ceil(factor * p_hf);
-        *answers++ = s->depths[i];
-        *answers++ = (uint32_t)p_hf;
-        *answers++ = (uint32_t)p_wf;
-        *answers++ = (uint32_t)pressure(factor_v, z0_v, z);
-        *answers++ = (uint32_t)ceil(factor_w * (z - z0_w * bracket_w));
-        *answers++ = (uint32_t)p_he;
-        *answers++ = (uint32_t)ceil(1.1 * p_wf);
-        *answers++ = (uint32_t)ceil(patch * p_he);
+static void plain_bottom(const struct silo *s, double radius, double p_vf, uint32_t *bottom) {
+    double height = s->hopper, run = s->run, friction = s->friction / 1e2;
+    for (int i = 0; i < BOTTOM; i++)
+        bottom[i] = 0;
+    if (run == 0) {
+        bottom[0] = (uint32_t)ceil(1.2 * p_vf);
+        return;
     }
-
-    double foot = 0;
-    for (int i = 0; i < STRAKES; i++)
-        foot += s->strakes[i] / 1e3;
-    double height = s->hopper, run = s->run, sine = height * height / (height * height + run * run);
-    double n3 = ceil(ceil(3 * radius * weight * 1.15 * ratio * sine) / sqrt(0.9 * friction));
-    double p_vf = pressure(factor_v, z0_v, foot);
+    double sine = height * height / (height * height + run * run);
+    double base = ceil(3 * radius * s->weight * 1.15 * (s->ratio / 1e2) * sine), n3 = ceil(base / sqrt(0.9 * friction));
     for (int k = 0; k < 5; k++) {
         double normal = n3 + ceil(p_vf * (1.2 * (1 - sine) + sine * k / 4));
-        answers[k] = (uint32_t)normal;
-        answers[5 + k] = (uint32_t)ceil(normal * 1.15 * friction);
+        bottom[k] = (uint32_t)normal;
+        bottom[5 + k] = (uint32_t)ceil(normal * 1.15 * friction);
     }
-    answers += 10;
+}
 
+uint32_t plain_loads(const uint8_t *sheet, size_t sheet_len, uint32_t *answers, size_t answers_len) {
+    struct silo s;
+    uint32_t refusal = read_call(sheet, sheet_len, answers_len, &s);
+    if (refusal != 0)
+        return refusal;
+    double radius = (double)s.a * s.b / (2e3 * ((double)s.a + s.b)), ratio = s.ratio / 1e2, friction = s.friction / 1e2;
+    const struct curve curves[3] = {
+        {s.weight * radius / (0.9 * friction), radius / (1.15 * ratio * 0.9 * friction)},
+        {s.weight * radius / (0.9 * friction * 0.9 * ratio), radius / (0.9 * ratio * 0.9 * friction)},
+        {s.weight * radius, radius / (1.15 * ratio * 1.15 * friction)},
+    };
+    for (uint32_t i = 0; i < s.depth_count; i++, answers += COLUMNS)
+        plain_row(&s, s.depths[i], curves, answers);
+    plain_bottom(&s, radius, pressure(curves[1], foot_of(&s) / 1e3), answers);
     double edge = 0;
-    for (int i = 0; i < STRAKES; i++) {
-        edge += s->strakes[i] / 1e3;
-        *answers++ = (uint32_t)ceil(factor * pressure(factor_h, z0_h, edge));
+    for (uint32_t i = 0; i < s.strake_count; i++) {
+        edge += s.strakes[i] / 1e3;
+        answers[BOTTOM + i] = (uint32_t)ceil(s.factor / 1e2 * pressure(curves[0], edge));
     }
+    return 0;
 }

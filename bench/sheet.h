@@ -1,59 +1,41 @@
-/* The sheet that is measured: a circular tower with 24 strakes, a hopper and up to 200 depths. */
+/* What the measured programs share: a sheet's numbers, its reading with refusals 1 to 13, and the sheet that is measured. */
 #ifndef SHEET_H
 #define SHEET_H
 
 #include <stddef.h>
 #include <stdint.h>
 
-enum { STRAKES = 24, MAX_DEPTHS = 200, MAX_ANSWERS = 8 * MAX_DEPTHS + 10 + STRAKES };
+enum { MAX_SHEET = 1024, MAX_STRAKES = 24, MAX_DEPTHS = 200, BOTTOM = 10, COLUMNS = 8 };
+enum { MAX_ANSWERS = COLUMNS * MAX_DEPTHS + BOTTOM + MAX_STRAKES };
 
-/* The sheet's numbers: mm, N/m3 and hundredths. */
+/* mm, N/m3 and hundredths; a circle has a = b. */
 struct silo {
-    uint32_t diameter, weight, ratio, friction, factor, e_i, e_o, hopper, run;
-    uint32_t strakes[STRAKES], depths[MAX_DEPTHS], depth_count;
+    uint32_t a, b, weight, ratio, friction, factor, e_i, e_o, hopper, run;
+    uint32_t strake_count, depth_count;
+    uint32_t strakes[MAX_STRAKES], depths[MAX_DEPTHS];
 };
 
-/* 6 m by 24 m over a hopper of 3 m, with that many depths down the wall. */
-static inline struct silo tower(uint32_t depth_count) {
-    struct silo s = {6000, 9000, 55, 30, 130, 200, 400, 3000, 2500, {0}, {0}, depth_count};
-    for (uint32_t i = 0; i < STRAKES; i++)
-        s.strakes[i] = 1000;
-    for (uint32_t i = 0; i < depth_count; i++)
-        s.depths[i] = 24000 * (i + 1) / depth_count;
-    return s;
-}
+/* The refusal, 1 to 13, or 0 with the silo's numbers, a factor of 0 read as 135. */
+uint32_t read_sheet(const uint8_t *sheet, size_t length, struct silo *s);
 
-static inline uint8_t *put(uint8_t *at, uint32_t n, int width) {
-    for (int i = 0; i < width; i++)
-        *at++ = (uint8_t)(n >> 8 * i);
-    return at;
-}
+/* The same with refusal 14 as well, for a list of that length. */
+uint32_t read_call(const uint8_t *sheet, size_t sheet_len, size_t answers_len, struct silo *s);
 
-/* Appends a record's header and its numbers. */
-static inline uint8_t *record(uint8_t *at, uint32_t kind, const uint32_t *numbers, uint32_t count, int width) {
-    at = put(put(at, count * (uint32_t)width, 2), kind, 2);
-    for (uint32_t i = 0; i < count; i++)
-        at = put(at, numbers[i], width);
-    return at;
-}
+size_t answers_length(const struct silo *s);
 
-/* Writes the sheet, at most 1,024 bytes, and tells its length. */
-static inline size_t write_sheet(const struct silo *s, uint8_t *sheet) {
-    uint8_t *at = record(sheet, 1, &s->diameter, 1, 4);
-    at = put(put(at, 10, 2), 3, 2);
-    at = put(put(put(put(at, s->weight, 4), s->ratio, 2), s->friction, 2), s->factor, 2);
-    at = record(at, 4, (const uint32_t[]){s->e_i, s->e_o}, 2, 4);
-    at = record(at, 5, (const uint32_t[]){s->hopper, s->run}, 2, 4);
-    at = record(at, 6, s->strakes, STRAKES, 2);
-    at = record(at, 7, s->depths, s->depth_count, 4);
-    return (size_t)(at - sheet);
-}
+/* V, the sum of the strakes. */
+uint32_t foot_of(const struct silo *s);
 
-static inline size_t answers_length(const struct silo *s) {
-    return 8 * (size_t)s->depth_count + 10 + STRAKES;
-}
+/* 6 m wide over a hopper of 3 m, with strakes of 1 m, at least eight, and that many depths down the wall. */
+struct silo tower(uint32_t depth_count, uint32_t strake_count);
 
-/* The same list in double arithmetic with libm's exp; its roundings keep no promise. */
-void plain_loads(const struct silo *s, uint32_t *answers);
+/* Writes the sheet of a circular silo, at most MAX_SHEET bytes, and tells its length. */
+size_t write_sheet(const struct silo *s, uint8_t *sheet);
+
+/* The load call as silo.h declares it, in double arithmetic with libm; its roundings keep no promise. */
+uint32_t plain_loads(const uint8_t *sheet, size_t sheet_len, uint32_t *answers, size_t answers_len);
+
+/* The load call with MPFR and directed rounding, which keeps the same promise as silo_loads. */
+uint32_t directed_loads(const uint8_t *sheet, size_t sheet_len, uint32_t *answers, size_t answers_len);
 
 #endif

@@ -63,7 +63,7 @@ impl Silo {
     }
 }
 
-fn record(kind: u16, payload: Vec<u8>) -> Vec<u8> {
+pub fn record(kind: u16, payload: Vec<u8>) -> Vec<u8> {
     let length = payload.len() as u16;
     [&length.to_le_bytes()[..], &kind.to_le_bytes(), &payload].concat()
 }
@@ -93,8 +93,8 @@ pub fn parse(sheet: &[u8]) -> Result<Silo, u64> {
     }
 }
 
-/// Refusals 2 to 5: header, kind, length, payload present, record by record; then nothing left over.
-fn records(sheet: &[u8]) -> Result<Silo, u64> {
+/// What a sheet says, before any value is judged. Refusals 2 to 5: header, kind, length, payload present, record by record; then nothing left over.
+pub fn records(sheet: &[u8]) -> Result<Silo, u64> {
     let due: [&[u64]; 6] = [&[1, 2], &[3], &[4], &[5], &[6], &[7]];
     let mut rest = sheet;
     let mut payloads = Vec::new();

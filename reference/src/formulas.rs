@@ -1,6 +1,7 @@
 //! The loads of document 01 as exact numbers: lengths in metres, hundredths as plain ratios, nothing rounded.
 
-use crate::exact::{exponential, fraction, whole, Fraction, Real};
+use crate::exponential::exponential;
+use crate::fraction::{fraction, whole, Fraction, Real};
 use crate::sheet::Silo;
 
 /// A row of document 01's table of factors: hundredths for Ks and for μ.
@@ -11,19 +12,20 @@ pub const HORIZONTAL: Row = Row(115, 90);
 pub const VERTICAL: Row = Row(90, 90);
 pub const FRICTION: Row = Row(115, 115);
 
-fn metres(mm: u64) -> Fraction {
-    fraction(mm, 1_000)
+/// A length in metres.
+fn metres(mm: Fraction) -> Fraction {
+    mm.times(&fraction(1, 1_000))
 }
 
-/// R = a·b/(2(a+b)), in m with the sides in mm.
+/// R = a·b/(2(a+b)), in mm.
 fn radius(silo: &Silo) -> Fraction {
     let (a, b) = (silo.a(), silo.b());
-    fraction(a * b, 2 * (a + b) * 1_000)
+    fraction(a * b, 2 * (a + b))
 }
 
-/// γR.
+/// γR, in Pa.
 fn weight_radius(silo: &Silo) -> Fraction {
-    radius(silo).times(&whole(silo.weight))
+    metres(radius(silo)).times(&whole(silo.weight))
 }
 
 /// Ks and μ with the row's factors.
@@ -31,7 +33,7 @@ fn factored(silo: &Silo, row: Row) -> (Fraction, Fraction) {
     (fraction(silo.ratio * row.0, 10_000), fraction(silo.friction * row.1, 10_000))
 }
 
-/// z0 = R/(Ks·μ).
+/// z0 = R/(Ks·μ), in mm.
 fn z0(silo: &Silo, row: Row) -> Fraction {
     let (ratio, friction) = factored(silo, row);
     radius(silo).over(&ratio.times(&friction))
@@ -39,7 +41,7 @@ fn z0(silo: &Silo, row: Row) -> Fraction {
 
 /// q = z/z0.
 pub fn q(silo: &Silo, row: Row, depth: u64) -> Fraction {
-    metres(depth).over(&z0(silo, row))
+    whole(depth).over(&z0(silo, row))
 }
 
 /// P, the factor before the bracket of p_hf, p_vf and p_wf, in Pa.
@@ -64,8 +66,8 @@ pub fn filling(silo: &Silo, depth: u64) -> Filling {
     let bracket = |row| one.minus(&exponential(&q(silo, row, depth)));
     let [horizontal, vertical, friction] = before_bracket(silo);
     let friction_bracket = bracket(FRICTION);
-    let z = Real::exactly(metres(depth));
-    let length = z.minus(&friction_bracket.times(&z0(silo, FRICTION)));
+    let z = Real::exactly(metres(whole(depth)));
+    let length = z.minus(&friction_bracket.times(&metres(z0(silo, FRICTION))));
     Filling {
         horizontal: bracket(HORIZONTAL).times(&horizontal),
         vertical: bracket(VERTICAL).times(&vertical),

@@ -2,16 +2,23 @@
 
 use crate::sheet::{parse, Silo};
 
+/// What `within` gives: any number, and each end one time in eight; an end alone; or a round number where there is one.
+#[derive(Clone, Copy)]
+enum Numbers {
+    Any,
+    Ends,
+    Round,
+}
+
 /// Numbers that are the same on every run (splitmix64).
 pub struct Random {
     state: u64,
-    /// `within` gives ends alone.
-    ends: bool,
+    numbers: Numbers,
 }
 
 impl Random {
     pub fn new(seed: u64) -> Random {
-        Random { state: seed, ends: false }
+        Random { state: seed, numbers: Numbers::Any }
     }
 
     fn next(&mut self) -> u64 {
@@ -30,12 +37,15 @@ impl Random {
         self.below(n) == 0
     }
 
-    /// From low to high, and each end one time in eight.
+    /// From low to high.
     fn within(&mut self, low: u64, high: u64) -> u64 {
-        match self.below(if self.ends { 2 } else { 8 }) {
-            0 => low,
-            1 => high,
-            _ => low + self.below(high - low + 1),
+        let any = low + self.below(high - low + 1);
+        match (self.numbers, self.below(8)) {
+            (Numbers::Ends, n) => [low, high][n as usize % 2],
+            (Numbers::Round, _) => round(any, low),
+            (Numbers::Any, 0) => low,
+            (Numbers::Any, 1) => high,
+            (Numbers::Any, _) => any,
         }
     }
 
@@ -44,12 +54,39 @@ impl Random {
     }
 }
 
+/// The roundest number from low to n: thousands, else hundreds, else tens, else n.
+fn round(n: u64, low: u64) -> u64 {
+    let rounded = [1_000, 100, 10].map(|unit| n - n % unit);
+    rounded.into_iter().find(|round| *round >= low.max(1)).unwrap_or(n)
+}
+
+/// The silo of document 01's cases: circle 5,000, γ 9,000, Ks 50, μ 40, C0 140, e 0, flat; five strakes of 2,000; depths 0 and 5,000.
+pub fn sample() -> Silo {
+    Silo {
+        section: vec![5_000],
+        weight: 9_000,
+        ratio: 50,
+        friction: 40,
+        factor: 140,
+        e_i: 0,
+        e_o: 0,
+        hopper_height: 0,
+        run: 0,
+        strakes: vec![2_000; 5],
+        depths: vec![0, 5_000],
+    }
+}
+
 /// A silo that is accepted.
 pub fn silo(random: &mut Random) -> Silo {
     loop {
-        random.ends = random.one_in(8);
+        random.numbers = match random.below(8) {
+            0 => Numbers::Ends,
+            1 => Numbers::Round,
+            _ => Numbers::Any,
+        };
         let mut silo = candidate(random);
-        random.ends = false;
+        random.numbers = Numbers::Any;
         silo.depths = depths(random, &silo);
         if parse(&silo.sheet()) == Ok(silo.clone()) {
             return silo;
@@ -66,10 +103,7 @@ fn candidate(random: &mut Random) -> Silo {
     let longer = random.within(shorter, 50_000);
     let section = random.pick(&[vec![shorter], vec![shorter, longer], vec![longer, shorter]]);
     let d_c = shorter;
-    let flat = random.one_in(2);
-    let run = if flat { 0 } else { random.within(1, (d_c - 1) / 2) };
-    let flattest = (363_971 * run).div_ceil(1_000_000);
-    let hopper_height = if flat { 0 } else { random.within(flattest, 25_000) };
+    let (hopper_height, run) = hopper(random, d_c);
     let strakes = wall(random, d_c, hopper_height);
     let eccentricity = [0, random.within(0, d_c / 4), random.within(0, d_c / 4)];
     Silo {
@@ -85,6 +119,18 @@ fn candidate(random: &mut Random) -> Silo {
         strakes,
         depths: vec![],
     }
+}
+
+/// Height and run: a flat floor, any hopper, or one of a few millimetres, where loads are often whole numbers before any rounding.
+fn hopper(random: &mut Random, d_c: u64) -> (u64, u64) {
+    let (longest, highest) = match random.below(8) {
+        0..=3 => return (0, 0),
+        4 => (4, 8),
+        _ => ((d_c - 1) / 2, 25_000),
+    };
+    let run = random.within(1, longest);
+    let flattest = (363_971 * run).div_ceil(1_000_000);
+    (random.within(flattest, highest), run)
 }
 
 /// Strakes that make h slender, where 24 of them can.
@@ -113,7 +159,11 @@ pub fn depths(random: &mut Random, silo: &Silo) -> Vec<u64> {
             0 => random.below(foot.min(64)),
             1 => random.pick(&silo.edges()),
             2 => depths.last().map_or(0, |depth| depth + 1),
-            3 => just_above_whole(random, silo),
+            3 => {
+                let load = random.below(4);
+                let some = (0..2_000).map(|_| 1 + random.below(foot));
+                just_above_whole(silo, load, some)
+            }
             _ => random.within(0, foot),
         };
         depths.push(depth.min(foot));
@@ -123,13 +173,12 @@ pub fn depths(random: &mut Random, silo: &Silo) -> Vec<u64> {
     depths
 }
 
-/// Of many depths, the one where a pressure or P_w is the least above a whole number: what is rounded down a little there is below
-/// its exact value.
-fn just_above_whole(random: &mut Random, silo: &Silo) -> u64 {
+/// Of some depths, the one where a load is the least above a whole number: p_hf, p_vf, p_wf or P_w. What is rounded down a little there is
+/// below its exact value. Doubles are good enough to choose by.
+fn just_above_whole(silo: &Silo, load: u64, depths: impl Iterator<Item = u64>) -> u64 {
     let (a, b) = (silo.a() as f64, silo.b() as f64);
     let (ratio, friction) = (silo.ratio as f64 / 100.0, silo.friction as f64 / 100.0);
     let radius = a * b / (a + b) / 2_000.0;
-    let load = random.below(4);
     let (ratio, friction) = match load {
         0 => (1.15 * ratio, 0.9 * friction),
         1 => (0.9 * ratio, 0.9 * friction),
@@ -147,9 +196,26 @@ fn just_above_whole(random: &mut Random, silo: &Silo) -> u64 {
                 _ => radius * (z - z0 * bracket),
             }
     };
-    let candidates = (0..2_000).map(|_| 1 + random.below(silo.foot()));
-    let nearest = candidates.map(|depth| (value(depth).fract(), depth));
+    let nearest = depths.map(|depth| (value(depth).fract(), depth));
     nearest.min_by(|one, other| one.0.total_cmp(&other.0)).map_or(0, |(_, depth)| depth)
+}
+
+/// A wide and high silo with heavy contents and little friction, where an error in e^-q counts most, at the depths where each load is the
+/// least above a whole number among all millimetres.
+pub fn heavy(random: &mut Random) -> Silo {
+    let mut silo = Silo {
+        section: vec![random.within(20_000, 48_000)],
+        weight: random.within(25_000, 30_000),
+        ratio: random.within(20, 100),
+        friction: random.within(10, 14),
+        factor: random.within(100, 200),
+        strakes: vec![3_000; 24],
+        ..sample()
+    };
+    silo.depths = (0..4).map(|load| just_above_whole(&silo, load, 1..=silo.foot())).collect();
+    silo.depths.sort();
+    silo.depths.dedup();
+    silo
 }
 
 /// Another accepted silo with the same section and product, and depths beside the first one's.

@@ -8,11 +8,14 @@
 //! of 4,000·f mm, f being the product of a row's two factors (4,140, 3,240 and 5,290 mm), z0 is 5 m for that row; so the library's
 //! pressure at 5,000·h/b mm has to lie from P·(K - 0.00005) to P·(K + 0.00005) + 2.
 
-use crate::cases;
-use crate::check::{self, expect, Tally};
-use crate::exact::{exponential, fraction, whole, Fraction, Real};
-use crate::formulas::{self, FRICTION, HORIZONTAL, VERTICAL};
-use crate::sheet::Silo;
+mod linked;
+
+use reference::compare::Comparison;
+use reference::exponential::exponential;
+use reference::formulas::{self, Row, FRICTION, HORIZONTAL, VERTICAL};
+use reference::fraction::{fraction, whole, Fraction, Real};
+use reference::inputs::sample;
+use reference::sheet::Silo;
 
 /// h/b in tenths, and K in ten-thousandths.
 const TABLE: [(u64, u64); 8] = [
@@ -34,13 +37,19 @@ fn printed(k: u64) -> (Fraction, Fraction) {
     }
 }
 
-pub fn run(tally: &mut Tally) {
+#[test]
+fn the_exact_bracket_is_the_printed_one() {
     for (tenths, k) in TABLE {
         let bracket = Real::exactly(whole(1)).minus(&exponential(&fraction(tenths, 10)));
         let (low, high) = printed(k);
         let agrees = bracket.high <= high && bracket.low >= low;
-        expect(agrees, &[], || format!("K at h/b = {tenths}/10 is not {k}/10000"));
+        assert!(agrees, "K at h/b = {tenths}/10 is not {k}/10000");
     }
+}
+
+#[test]
+fn the_pressures_follow_the_printed_brackets() {
+    let mut comparison = Comparison::with(&linked::Linked);
     // Row of factors, diameter, the row's place in `before_bracket`, and its column in the answer list.
     let rows = [(HORIZONTAL, 4_140, 0, 1), (VERTICAL, 3_240, 1, 3), (FRICTION, 5_290, 2, 2)];
     for (row, diameter, place, column) in rows {
@@ -48,19 +57,24 @@ pub fn run(tally: &mut Tally) {
             section: vec![diameter],
             strakes: vec![2_500; 10],
             depths: TABLE.iter().map(|(tenths, _)| 500 * tenths).collect(),
-            ..cases::sample()
+            ..sample()
         };
-        check::accepted(&silo, tally);
-        let list = check::answers(&silo);
-        let factor = &formulas::before_bracket(&silo)[place];
-        for (i, (tenths, k)) in TABLE.into_iter().enumerate() {
-            let exact = formulas::q(&silo, row, silo.depths[i]) == fraction(tenths, 10);
-            expect(exact, &silo.sheet(), || format!("q is not {tenths}/10"));
-            let (low, high) = printed(k);
-            let pressure = whole(list[8 * i + column]);
-            let agrees = pressure >= factor.times(&low)
-                && pressure <= factor.times(&high).plus(&whole(if k == 0 { 0 } else { 2 }));
-            expect(agrees, &silo.sheet(), || format!("a pressure is not Caquot's at {tenths}/10"));
-        }
+        comparison.accepted(&silo).unwrap();
+        let list = comparison.answers(&silo).unwrap();
+        let pressures: Vec<u64> = list.iter().skip(column).step_by(8).copied().collect();
+        follow(&silo, row, &formulas::before_bracket(&silo)[place], &pressures);
+    }
+    println!("{}", comparison.tally);
+}
+
+/// P·(K - 0.00005) ≤ p ≤ P·(K + 0.00005) + 2 for each line of the table, and 0 for the first.
+fn follow(silo: &Silo, row: Row, factor: &Fraction, pressures: &[u64]) {
+    for (i, (tenths, k)) in TABLE.into_iter().enumerate() {
+        assert!(formulas::q(silo, row, silo.depths[i]) == fraction(tenths, 10));
+        let (low, high) = printed(k);
+        let above = whole(if k == 0 { 0 } else { 2 });
+        let pressure = whole(pressures[i]);
+        let agrees = pressure >= factor.times(&low) && pressure <= factor.times(&high).plus(&above);
+        assert!(agrees, "{} is not Caquot's at h/b = {tenths}/10", pressures[i]);
     }
 }

@@ -1,0 +1,283 @@
+//! The comparison of a library with document 01, for sheets of any kind.
+//!
+//! For an accepted sheet: filling pressures and P_w inside their bands, each load made from filling equal to its formula over the
+//! filling pressures and inside its allowance, nothing falling with depth. For a refused one: its number from both calls, and the
+//! list as it was.
+
+use crate::calls::{expect, Calls, Difference, Library, Outcome, UNTOUCHED, UNTOUCHED_BYTE};
+use crate::catalogue;
+use crate::formulas::{self, Filling};
+use crate::fraction::{fraction, least, whole, Fraction, Real};
+use crate::sheet::{parse, Silo};
+use std::fmt;
+
+/// What was compared.
+#[derive(Default)]
+pub struct Tally {
+    pub accepted: u64,
+    /// Sheets by the number of their refusal; at 14 lists of a wrong length, each lent with an accepted sheet.
+    pub refused: [u64; 15],
+    pub rows: u64,
+    pub strakes: u64,
+    pub pairs: u64,
+    /// Filling pressures, and those of them that are less than 1 + 1/64 above.
+    pub pressures: u64,
+    pub tight: u64,
+    /// Places where P_w falls with depth: it may, inside its band.
+    pub line_falls: u64,
+}
+
+impl Tally {
+    pub fn sheets(&self) -> u64 {
+        self.accepted + self.refused[..14].iter().sum::<u64>()
+    }
+}
+
+impl fmt::Display for Tally {
+    fn fmt(&self, f: &mut fmt::Formatter) -> fmt::Result {
+        let refused: Vec<String> = (1..=14).map(|n| format!("{n}: {}", self.refused[n])).collect();
+        writeln!(f, "{} sheets compared, {} of them accepted", self.sheets(), self.accepted)?;
+        writeln!(f, "refused, by number: {}", refused.join(", "))?;
+        writeln!(
+            f,
+            "accepted sheets had {} rows and {} strakes; {} pairs with one section and product",
+            self.rows, self.strakes, self.pairs
+        )?;
+        write!(
+            f,
+            "less than 1 + 1/64 above: {} of {} filling pressures; P_w falls with depth {} times",
+            self.tight, self.pressures, self.line_falls
+        )
+    }
+}
+
+/// A row of the answer list.
+type Row = [u64; 8];
+const COLUMNS: [&str; 8] = ["z", "p_hf", "p_wf", "p_vf", "P_w", "p_he", "p_we", "p_p"];
+
+pub struct Comparison<'a> {
+    pub calls: Calls<'a>,
+    pub tally: Tally,
+}
+
+impl<'a> Comparison<'a> {
+    pub fn with(library: &'a dyn Library) -> Comparison<'a> {
+        Comparison { calls: Calls { library, canaries: 8 }, tally: Tally::default() }
+    }
+
+    /// Prints what was compared; an accepted sheet and each of these refusals have to be among it.
+    pub fn report(&self, refusals: impl IntoIterator<Item = usize>) {
+        println!("{}", self.tally);
+        assert!(self.tally.accepted > 0, "no sheet was accepted");
+        for number in refusals {
+            assert!(self.tally.refused[number] > 0, "refusal {number} was never reached");
+        }
+    }
+
+    /// Compares any bytes; `lengths` are those of the lists that a refused sheet is lent with.
+    pub fn sheet(&mut self, bytes: &[u8], lengths: &[usize]) -> Outcome {
+        match parse(bytes) {
+            Ok(silo) => {
+                assert!(silo.sheet() == bytes, "a sheet is written as it is read");
+                self.accepted(&silo)
+            }
+            Err(refusal) => self.refused(bytes, refusal, lengths),
+        }
+    }
+
+    /// A refused sheet: its number from both calls, and each list as it was.
+    fn refused(&mut self, bytes: &[u8], refusal: u64, lengths: &[usize]) -> Outcome {
+        let told = self.calls.answers_length(bytes)?;
+        expect(told == refusal, bytes, || format!("answers_length {told}, refusal {refusal} due"))?;
+        lengths.iter().try_for_each(|length| self.untouched(bytes, refusal, *length))?;
+        self.tally.refused[refusal as usize] += 1;
+        Ok(())
+    }
+
+    fn untouched(&self, bytes: &[u8], refusal: u64, length: usize) -> Outcome {
+        let (answer, list) = self.calls.loads(bytes, length)?;
+        expect(u64::from(answer) == refusal, bytes, || {
+            format!("list of {length}: answer {answer}, refusal {refusal} due")
+        })?;
+        let same = list.iter().all(|n| *n == UNTOUCHED);
+        expect(same, bytes, || format!("refusal {refusal} changed the list of {length}"))
+    }
+
+    /// The list of an accepted sheet.
+    pub fn answers(&self, silo: &Silo) -> Result<Vec<u64>, Difference> {
+        let (bytes, due) = (silo.sheet(), silo.answers_length());
+        let told = self.calls.answers_length(&bytes)?;
+        expect(told == (1 << 32) + due as u64, &bytes, || {
+            format!("answers_length {told}, 2^32 + {due} due")
+        })?;
+        let (answer, list) = self.calls.loads(&bytes, due)?;
+        expect(answer == 0, &bytes, || format!("answer {answer} for an accepted sheet"))?;
+        Ok(list.into_iter().map(u64::from).collect())
+    }
+
+    /// An accepted sheet, beside one that lists its lower edges: the last of them is V.
+    pub fn accepted(&mut self, silo: &Silo) -> Outcome {
+        let bytes = silo.sheet();
+        let at_edges = Silo { depths: silo.edges(), ..silo.clone() };
+        let (list, edge_list) = (self.answers(silo)?, self.answers(&at_edges)?);
+        let (listed, edges) = (rows(silo, &list), rows(&at_edges, &edge_list));
+        let fillings: Vec<Filling> =
+            at_edges.depths.iter().map(|z| formulas::filling(silo, *z)).collect();
+        for (row, z) in listed.iter().zip(&silo.depths) {
+            match at_edges.depths.iter().position(|edge| edge == z) {
+                Some(i) => self.row(silo, row, *z, &fillings[i])?,
+                None => self.row(silo, row, *z, &formulas::filling(silo, *z))?,
+            }
+        }
+        for (row, (z, filling)) in edges.iter().zip(at_edges.depths.iter().zip(&fillings)) {
+            self.row(silo, row, *z, filling)?;
+        }
+        let below_rows = &list[8 * silo.depths.len()..];
+        expect(below_rows == &edge_list[8 * at_edges.depths.len()..], &bytes, || {
+            "bottom or strakes differ with the listed depths".into()
+        })?;
+        judge_bottom(silo, &below_rows[..10], edges[edges.len() - 1][3], &fillings)?;
+        judge_strakes(silo, &below_rows[10..], &edges, &fillings)?;
+        for length in [0, list.len() - 1, list.len() + 1, 2 * list.len()] {
+            self.untouched(&bytes, 14, length)?;
+            self.tally.refused[14] += 1;
+        }
+        self.never_falls(&bytes, [listed, edges].concat(), &[1, 2, 3, 5, 6, 7])?;
+        self.tally.accepted += 1;
+        self.tally.strakes += silo.strakes.len() as u64;
+        Ok(())
+    }
+
+    /// Two accepted sheets with equal first two records: what section, product and depth alone decide.
+    pub fn pair(&mut self, one: &Silo, other: &Silo) -> Outcome {
+        let both = [rows(one, &self.answers(one)?), rows(other, &self.answers(other)?)].concat();
+        self.never_falls(&[one.sheet(), other.sheet()].concat(), both, &[1, 2, 3, 5, 6])?;
+        self.tally.pairs += 1;
+        Ok(())
+    }
+
+    /// Nothing falls with depth, and equal depths have equal numbers, in those columns. P_w is not among them, since document 01
+    /// asks this of pressures; it is only counted.
+    fn never_falls(&mut self, bytes: &[u8], mut rows: Vec<Row>, columns: &[usize]) -> Outcome {
+        rows.sort();
+        for pair in rows.windows(2) {
+            self.tally.line_falls += u64::from(pair[0][4] > pair[1][4]);
+            let depths = (pair[0][0], pair[1][0]);
+            for column in columns {
+                let (above, below) = (pair[0][*column], pair[1][*column]);
+                let name = COLUMNS[*column];
+                expect(above <= below, bytes, || format!("{name} falls between {depths:?}"))?;
+                let differs = depths.0 == depths.1 && above != below;
+                expect(!differs, bytes, || format!("{name} has two values at {}", depths.0))?;
+            }
+        }
+        Ok(())
+    }
+
+    fn row(&mut self, silo: &Silo, row: &Row, depth: u64, exact: &Filling) -> Outcome {
+        let [z, p_hf, p_wf, _, line, p_he, p_we, p_p] = *row;
+        let named = |column: usize| format!("{} at depth {depth}", COLUMNS[column]);
+        expect(z == depth, &silo.sheet(), || format!("z is {z} at depth {depth}"))?;
+        let zeros = depth > 0 || row[1..] == [0; 7];
+        expect(zeros, &silo.sheet(), || format!("depth 0 has {row:?}"))?;
+        let pressures = [&exact.horizontal, &exact.friction, &exact.vertical];
+        for (i, pressure) in pressures.into_iter().enumerate() {
+            band(silo, &named(i + 1), row[i + 1], pressure, 2)?;
+            let tight = pressure.plus(&Real::exactly(fraction(65, 64)));
+            self.tally.pressures += 1;
+            self.tally.tight += u64::from(!tight.is_at_most(&whole(row[i + 1])));
+        }
+        band(silo, &named(4), line, &exact.line, 2)?;
+
+        let (factor, patch) = (formulas::discharge(silo), formulas::patch(silo));
+        made(silo, &named(5), p_he, &whole(p_hf).times(&factor))?;
+        made(silo, &named(6), p_we, &whole(p_wf).times(&fraction(11, 10)))?;
+        made(silo, &named(7), p_p, &whole(p_he).times(&patch))?;
+        let discharge = exact.horizontal.times(&factor);
+        band(silo, &named(5), p_he, &discharge, 5)?;
+        band(silo, &named(6), p_we, &exact.friction.times(&fraction(11, 10)), 4)?;
+        band(silo, &named(7), p_p, &discharge.times(&patch), 3)?;
+        self.tally.rows += 1;
+        Ok(())
+    }
+
+    /// The catalogue call for any row, wall and buffer; tells its answer.
+    pub fn catalogue(&self, row: u32, wall: u32, length: usize) -> Result<u32, Difference> {
+        let (answer, buffer) = self.calls.catalogue(row, wall, length)?;
+        let (due, bytes) = match catalogue::record(row, wall, length) {
+            Ok(record) => (0, record),
+            Err(refusal) => (refusal, vec![UNTOUCHED_BYTE; length]),
+        };
+        expect(answer == due && buffer == bytes, &bytes, || {
+            let call = format!("catalogue row {row}, wall {wall}, buffer of {length}");
+            format!("{call}: answer {answer} with {buffer:?}, {due} with {bytes:?} due")
+        })?;
+        Ok(answer)
+    }
+}
+
+fn rows(silo: &Silo, list: &[u64]) -> Vec<Row> {
+    let rows = list[..8 * silo.depths.len()].chunks(8);
+    rows.map(|row| row.try_into().expect("eight numbers")).collect()
+}
+
+/// A load is its formula over whole numbers, rounded up once.
+fn made(silo: &Silo, name: &str, load: u64, formula: &Fraction) -> Outcome {
+    expect(formula.rounds_up_to(load), &silo.sheet(), || {
+        format!("{name} is {load}, {} by its formula", formula.up())
+    })
+}
+
+/// A load is at or above its exact value, by less than its allowance.
+fn band(silo: &Silo, name: &str, load: u64, exact: &Real, allowance: u64) -> Outcome {
+    expect(exact.is_at_most(&whole(load)), &silo.sheet(), || {
+        format!("{name} is {load}, below its exact value")
+    })?;
+    let above = exact.plus(&Real::exactly(whole(allowance)));
+    expect(!above.is_at_most(&whole(load)), &silo.sheet(), || {
+        format!("{name} is {load}, {allowance} or more above its exact value")
+    })
+}
+
+/// The ten bottom numbers over p_vf(V), whole and exact; the last filling is the one at V.
+fn judge_bottom(silo: &Silo, bottom: &[u64], p_vf: u64, fillings: &[Filling]) -> Outcome {
+    let exact = &fillings[fillings.len() - 1].vertical;
+    if silo.hopper_height == 0 {
+        made(silo, "floor", bottom[0], &whole(p_vf).times(&fraction(12, 10)))?;
+        band(silo, "floor", bottom[0], &exact.times(&fraction(12, 10)), 4)?;
+        return expect(bottom[1..] == [0; 9], &silo.sheet(), || {
+            "a flat floor has nine zeros".into()
+        });
+    }
+    let (n3, exact_n3) = (whole_n3(silo), formulas::n3(silo));
+    let friction = formulas::hopper_friction(silo);
+    for k in 0..5 {
+        let (p_n, p_t) = (bottom[k], bottom[5 + k]);
+        let share = formulas::hopper_share(silo, k as u64);
+        let (normal, traction) = (format!("P_n at k = {k}"), format!("P_t at k = {k}"));
+        made(silo, &normal, p_n, &whole(n3).plus(&whole(p_vf).times(&share)))?;
+        made(silo, &traction, p_t, &whole(p_n).times(&friction))?;
+        let exact_normal = exact_n3.plus(&exact.times(&share));
+        band(silo, &normal, p_n, &exact_normal, 8)?;
+        band(silo, &traction, p_t, &exact_normal.times(&friction), 10)?;
+    }
+    Ok(())
+}
+
+/// n3, the least n with 0.9·μ·n² ≥ B².
+fn whole_n3(silo: &Silo) -> u64 {
+    let b = whole(formulas::hopper_filling(silo).up());
+    let (squared, friction) = (b.times(&b), formulas::lower_friction(silo));
+    least(40, |n| friction.times(&whole(n as u64)).times(&whole(n as u64)) >= squared) as u64
+}
+
+/// Each strake's p_he at its lower edge, over p_hf there, whole and exact.
+fn judge_strakes(silo: &Silo, strakes: &[u64], edges: &[Row], fillings: &[Filling]) -> Outcome {
+    let factor = formulas::discharge(silo);
+    for (i, load) in strakes.iter().enumerate() {
+        let name = format!("strake {i}");
+        made(silo, &name, *load, &whole(edges[i][1]).times(&factor))?;
+        band(silo, &name, *load, &fillings[i].horizontal.times(&factor), 5)?;
+    }
+    Ok(())
+}

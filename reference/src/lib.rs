@@ -1,0 +1,15 @@
+//! A second implementation of document 01, written from its text: exact fractions in whole numbers of any size, e^-q enclosed by its
+//! series, every refusal and every load; and its comparison with a library that offers the calls of `include/silo.h`.
+
+pub mod calls;
+pub mod catalogue;
+pub mod compare;
+pub mod exponential;
+pub mod formulas;
+pub mod fraction;
+pub mod inputs;
+pub mod limits;
+pub mod natural;
+pub mod order;
+pub mod runs;
+pub mod sheet;

@@ -1,0 +1,314 @@
+//! Every limit of document 01: sheets with the value at it, below it and above it, each with the number due; 0 is acceptance.
+
+use crate::inputs::sample;
+use crate::sheet::{record, Silo};
+
+/// A sheet and the number of its refusal, or 0.
+pub type Due = (Vec<u8>, u64);
+
+const MAX: u64 = u32::MAX as u64;
+
+type Change = fn(&mut Silo, u64);
+
+/// The sample with one number changed.
+const NUMBERS: &[(Change, &[(u64, u64)])] = &[
+    (
+        |silo, n| silo.weight = n,
+        &[
+            (0, 7),
+            (999, 7),
+            (1_000, 0),
+            (1_001, 0),
+            (29_999, 0),
+            (30_000, 0),
+            (30_001, 7),
+            (MAX, 7),
+        ],
+    ),
+    (
+        |silo, n| silo.ratio = n,
+        &[(0, 7), (19, 7), (20, 0), (21, 0), (99, 0), (100, 0), (101, 7), (65_535, 7)],
+    ),
+    (
+        |silo, n| silo.friction = n,
+        &[(0, 7), (9, 7), (10, 0), (11, 0), (99, 0), (100, 0), (101, 7), (65_535, 7)],
+    ),
+    (
+        |silo, n| silo.factor = n,
+        &[(0, 0), (1, 7), (99, 7), (100, 0), (101, 0), (199, 0), (200, 0), (201, 7), (65_535, 7)],
+    ),
+    (|silo, n| silo.e_i = n, ECCENTRICITIES),
+    (|silo, n| silo.e_o = n, ECCENTRICITIES),
+    (
+        |silo, n| (silo.hopper_height, silo.run) = (n, 1_000),
+        &[(0, 9), (363, 9), (364, 0), (365, 0), (24_999, 0), (25_000, 0), (25_001, 9), (MAX, 9)],
+    ),
+    (
+        |silo, n| (silo.hopper_height, silo.run) = (1_000, n),
+        &[(0, 9), (1, 0), (2, 0), (2_498, 0), (2_499, 0), (2_500, 9), (1 << 31, 9), (MAX, 9)],
+    ),
+    (|silo, n| silo.run = n, &[(0, 0), (1, 9), (2, 9), (MAX, 9)]),
+    (|silo, n| silo.hopper_height = n, &[(0, 0), (1, 9), (2, 9), (MAX, 9)]),
+    (
+        |silo, n| silo.depths = vec![n],
+        &[(0, 0), (1, 0), (9_999, 0), (10_000, 0), (10_001, 11), (1 << 31, 11), (MAX, 11)],
+    ),
+    (
+        |silo, n| silo.depths = vec![0, n],
+        &[(0, 11), (1, 0), (2, 0), (9_999, 0), (10_000, 0), (10_001, 11), (MAX, 11)],
+    ),
+    (
+        |silo, n| silo.depths = vec![4_999, n, 5_001],
+        &[(0, 11), (4_998, 11), (4_999, 11), (5_000, 0), (5_001, 11), (5_002, 11), (MAX, 11)],
+    ),
+];
+
+/// d_c is 5,000; four times 2^30 is 0 in 32 bits.
+const ECCENTRICITIES: &[(u64, u64)] =
+    &[(0, 0), (1_249, 0), (1_250, 0), (1_251, 8), (1 << 30, 8), ((1 << 30) + 1, 8), (MAX, 8)];
+
+pub fn sheets() -> Vec<Due> {
+    let values = [numbers(), sides(), eccentricities(), slopes(), strakes(), depths(), shapes()];
+    let silos = values.concat().into_iter().chain(whole_loads());
+    let sheets = silos.map(|(silo, due)| (silo.sheet(), due));
+    sheets.chain(cut_or_extended()).chain(kinds()).chain(lengths()).collect()
+}
+
+fn numbers() -> Vec<(Silo, u64)> {
+    let mut silos = Vec::new();
+    for (change, values) in NUMBERS {
+        for (value, due) in *values {
+            let mut silo = sample();
+            change(&mut silo, *value);
+            silos.push((silo, *due));
+        }
+    }
+    silos
+}
+
+/// The sample with that section, and a wall and hopper of that height in all, the wall of equal strakes.
+pub fn of_height(section: &[u64], height: u64, hopper: (u64, u64)) -> Silo {
+    let foot = height.saturating_sub(hopper.0).clamp(200, 72_000);
+    let count = foot.div_ceil(3_000);
+    Silo {
+        section: section.to_vec(),
+        hopper_height: hopper.0,
+        run: hopper.1,
+        strakes: (0..count).map(|i| (foot + i) / count).collect(),
+        depths: vec![0, foot / 2, foot],
+        ..sample()
+    }
+}
+
+const FLAT: (u64, u64) = (0, 0);
+
+/// Rule 6: each side of each shape; where 24 strakes are too low for it, over a hopper.
+fn sides() -> Vec<(Silo, u64)> {
+    let mut silos = Vec::new();
+    for side in [0, 499, 500, 501, 49_999, 50_000, 50_001, 65_536 + 5_000, 1 << 31, MAX] {
+        let due = if (500..=50_000).contains(&side) { 0 } else { 6 };
+        for section in [vec![side], vec![side, 20_000], vec![20_000, side], vec![side, side]] {
+            let d_c = section.iter().fold(50_000, |least, side| *side.min(&least));
+            let hopper = if d_c > 48_000 { (25_000, 20_000) } else { FLAT };
+            silos.push((of_height(&section, 2 * d_c, hopper), due));
+        }
+    }
+    silos
+}
+
+/// Rule 8 where d_c is no multiple of 4, and is the shorter side.
+fn eccentricities() -> Vec<(Silo, u64)> {
+    let sections = [vec![5_001], vec![5_002], vec![5_003], vec![5_001, 9_000], vec![9_000, 5_001]];
+    let mut silos = Vec::new();
+    for section in sections {
+        for (e, due) in [(1_249, 0), (1_250, 0), (1_251, 8), (1_252, 8)] {
+            let silo = Silo { section: section.clone(), ..sample() };
+            silos.push((Silo { e_i: e, ..silo.clone() }, due));
+            silos.push((Silo { e_o: e, ..silo }, due));
+        }
+    }
+    silos
+}
+
+/// Rule 9: the flattest hopper and the next below it, for many runs, and for those where 1,000,000·H comes closest to 363,971·r on either
+/// side; and the longest run for an odd and an even d_c.
+fn slopes() -> Vec<(Silo, u64)> {
+    let mut silos = Vec::new();
+    let mut runs: Vec<u64> = (1..25_000).collect();
+    runs.sort_by_key(|run| 363_971 * run % 1_000_000);
+    let closest = [&runs[..20], &runs[runs.len() - 20..]].concat();
+    for run in (1..2_500).step_by(49).chain(closest) {
+        let flattest = (363_971 * run).div_ceil(1_000_000);
+        let d_c = (2 * run + 1).max(5_000);
+        for (height, due) in [(flattest - 1, 9), (flattest, 0)] {
+            let all = (2 * d_c).min(72_000) + height;
+            silos.push((of_height(&[d_c], all, (height, run)), due));
+        }
+    }
+    for (d_c, longest) in [(5_000, 2_499), (5_001, 2_500), (5_002, 2_500)] {
+        for (run, due) in [(longest, 0), (longest + 1, 9)] {
+            let section = vec![9_000, d_c];
+            silos.push((Silo { section, hopper_height: 2_000, run, ..sample() }, due));
+        }
+    }
+    silos
+}
+
+/// Rule 10 at each place of walls of 1, 5 and 24 strakes.
+fn strakes() -> Vec<(Silo, u64)> {
+    let one = of_height(&[500], 1_600, (600, 100));
+    let most = Silo { section: vec![12_000], strakes: vec![2_000; 24], ..sample() };
+    let values = [0, 199, 200, 201, 2_999, 3_000, 3_001, 65_535];
+    let mut silos = Vec::new();
+    for wall in [one, sample(), most] {
+        for place in 0..wall.strakes.len() {
+            for value in values {
+                let mut silo = Silo { depths: vec![0], ..wall.clone() };
+                silo.strakes[place] = value;
+                silos.push((silo, if (200..=3_000).contains(&value) { 0 } else { 10 }));
+            }
+        }
+    }
+    silos
+}
+
+/// Rule 11 at each place of 200 depths, and at V.
+fn depths() -> Vec<(Silo, u64)> {
+    let all = Silo { depths: (0..200).map(|i| 50 * (i + 1)).collect(), ..sample() };
+    let mut silos = vec![(all.clone(), 0)];
+    for place in 1..200 {
+        let mut silo = all.clone();
+        silo.depths[place] = silo.depths[place - 1];
+        silos.push((silo, 11));
+    }
+    for (last, due) in [(9_999, 0), (10_000, 0), (10_001, 11)] {
+        let mut silo = all.clone();
+        silo.depths[199] = last;
+        silos.push((silo, due));
+    }
+    silos
+}
+
+/// Rules 12 and 13, for odd and even d_c, the shorter side first and second, with and without a hopper.
+fn shapes() -> Vec<(Silo, u64)> {
+    let mut silos = Vec::new();
+    for d_c in [500u64, 501, 1_999, 2_000, 5_000, 5_001, 7_199] {
+        for section in [vec![d_c], vec![d_c, 9_000], vec![9_000, d_c]] {
+            for hopper in [FLAT, (200, 50)] {
+                let squat = (3 * d_c).div_ceil(2);
+                let heights = [
+                    (squat - 1, 13),
+                    (squat, 0),
+                    (squat + 1, 0),
+                    (10 * d_c - 1, 0),
+                    (10 * d_c, 12),
+                    (10 * d_c + 1, 12),
+                ];
+                let silo = |(height, due)| (of_height(&section, height, hopper), due);
+                silos.extend(heights.map(silo));
+            }
+        }
+    }
+    // The widest that a wall of 24 strakes makes slender, and the widest that it can make too high, each over a hopper.
+    for (height, due) in [(74_999, 13), (75_000, 0), (75_001, 0)] {
+        silos.push((of_height(&[50_000], height, (3_001, 1_000)), due));
+    }
+    for (height, due) in [(96_989, 0), (96_990, 12), (96_991, 12)] {
+        silos.push((of_height(&[9_699], height, (24_995, 1_000)), due));
+    }
+    silos
+}
+
+/// No rule's limit but a rounding's: 3·R·γ·1.15·Ks·sin²α is a whole number, 1,725 for each 1,000 N/m³, and so is 1.0·p_hf.
+fn whole_loads() -> Vec<(Silo, u64)> {
+    let hoppers = [1, 2, 1_000, 2_000, 3_000];
+    let silo = |weight: u64, size: u64| {
+        let silo = of_height(&[8_000], 20_000, (size, size));
+        (Silo { weight: 1_000 * weight, factor: 100, ..silo }, 0)
+    };
+    (1..=30).flat_map(|weight| hoppers.map(|size| silo(weight, size))).collect()
+}
+
+/// Rules 1, 2 and 5: every sheet cut short, the whole one, and longer ones.
+fn cut_or_extended() -> Vec<Due> {
+    let whole = Silo { section: vec![5_000, 6_000], ..sample() }.sheet();
+    let cut = (0..whole.len()).map(|length| (whole[..length].to_vec(), 2));
+    let longer = [(1, 5), (2, 5), (4, 5)].map(|(extra, due)| (whole.len() + extra, due));
+    let lengths = longer.into_iter().chain([(1_023, 5), (1_024, 5), (1_025, 1), (65_536, 1)]);
+    let extended = lengths.map(|(length, due)| {
+        let mut sheet = whole.clone();
+        sheet.resize(length, 0);
+        (sheet, due)
+    });
+    let zeros = [(4, 3), (1_024, 3), (1_025, 1)].map(|(length, due)| (vec![0; length], due));
+    cut.chain(extended).chain(zeros).chain([(whole.clone(), 0)]).collect()
+}
+
+/// A sheet's records, kind and payload.
+fn records(sheet: &[u8]) -> Vec<(u16, Vec<u8>)> {
+    let mut rest = sheet;
+    let mut records = Vec::new();
+    while let [low, high, kind_low, kind_high, after @ ..] = rest {
+        let length = u16::from_le_bytes([*low, *high]).into();
+        records.push((u16::from_le_bytes([*kind_low, *kind_high]), after[..length].to_vec()));
+        rest = &after[length..];
+    }
+    records
+}
+
+fn joined(records: &[(u16, Vec<u8>)]) -> Vec<u8> {
+    records.iter().flat_map(|(kind, payload)| record(*kind, payload.clone())).collect()
+}
+
+/// Rule 3: each record under every small kind, and under kinds that differ in the upper byte. A circle under a rectangle's kind, or the
+/// other way round, has a wrong length.
+fn kinds() -> Vec<Due> {
+    let mut sheets = Vec::new();
+    for silo in [sample(), Silo { section: vec![5_000, 6_000], ..sample() }] {
+        let whole = records(&silo.sheet());
+        for place in 0..whole.len() {
+            let right = whole[place].0;
+            for kind in (0..9).chain([255, 256 + right, 0x8000 + right, 65_535]) {
+                let mut changed = whole.clone();
+                changed[place].0 = kind;
+                let due = match () {
+                    () if kind == right => 0,
+                    () if place == 0 && (1..=2).contains(&kind) => 4,
+                    () => 3,
+                };
+                sheets.push((joined(&changed), due));
+            }
+        }
+    }
+    sheets
+}
+
+/// Rule 4: payloads of each kind, of every length round those allowed. Strakes are of 2,000 mm, so that under four of them are squat.
+fn lengths() -> Vec<Due> {
+    let strakes = |length: usize| match length {
+        2..=48 if length % 2 == 0 => 13 * u64::from(length < 8),
+        _ => 4,
+    };
+    let depths = |length: usize| if length % 4 == 0 && (4..=800).contains(&length) { 0 } else { 4 };
+    let exactly = |due: usize| move |length: usize| if length == due { 0 } else { 4 };
+    let mut sheets = Vec::new();
+    for length in (0..60).chain(790..810) {
+        sheets.push(resized(0, length, exactly(4)(length)));
+        sheets.push(resized(1, length, exactly(10)(length)));
+        sheets.push(resized(2, length, exactly(8)(length)));
+        sheets.push(resized(3, length, exactly(8)(length)));
+        sheets.push(resized(4, length, strakes(length)));
+        sheets.push(resized(5, length, depths(length)));
+    }
+    sheets
+}
+
+/// The sample with depth 0 alone, and one payload from a sheet of the longest ones, cut to a length or extended.
+fn resized(place: usize, length: usize, due: u64) -> Due {
+    let depths = (0..200).collect();
+    let longest = Silo { strakes: vec![2_000; 24], depths, ..sample() }.sheet();
+    let mut changed = records(&Silo { depths: vec![0], ..sample() }.sheet());
+    changed[place] = records(&longest).swap_remove(place);
+    changed[place].1.resize(length, 0);
+    (joined(&changed), due)
+}

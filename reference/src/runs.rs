@@ -1,0 +1,74 @@
+//! What is compared in one go: tables of sheets with the number due, and random sheets of each kind.
+
+use crate::calls::{expect, Difference, Outcome};
+use crate::catalogue::TABLE;
+use crate::compare::Comparison;
+use crate::inputs::{self, Random};
+use crate::limits::Due;
+use crate::sheet::parse;
+use std::collections::BTreeMap;
+
+/// Lengths of the lists that a refused sheet is lent with: none, one, the sample's, and the longest there is.
+const LISTS: [usize; 4] = [0, 1, 31, 1_634];
+
+/// Sheets with the number due, which the second implementation has to agree with as well.
+pub fn table(comparison: &mut Comparison, sheets: &[Due]) -> Outcome {
+    for (bytes, due) in sheets {
+        let judged = parse(bytes).err().unwrap_or(0);
+        expect(judged == *due, bytes, || format!("{due} is due, the reference says {judged}"))?;
+        comparison.sheet(bytes, &LISTS)?;
+    }
+    Ok(())
+}
+
+/// Random accepted silos, one in 32 of them heavy.
+pub fn accepted(comparison: &mut Comparison, random: &mut Random, count: u64) -> Outcome {
+    (0..count).try_for_each(|_| {
+        let heavy = random.one_in(32);
+        let silo = if heavy { inputs::heavy(random) } else { inputs::silo(random) };
+        comparison.accepted(&silo)
+    })
+}
+
+/// Random silos, each beside another one with its section and product.
+pub fn pairs(comparison: &mut Comparison, random: &mut Random, count: u64) -> Outcome {
+    (0..count).try_for_each(|_| {
+        let silo = inputs::silo(random);
+        comparison.pair(&silo, &inputs::sibling(random, &silo))
+    })
+}
+
+/// Damaged sheets of a random silo, each lent with a list of any length where it is refused.
+pub fn damaged(comparison: &mut Comparison, random: &mut Random, count: u64) -> Outcome {
+    let silo = inputs::silo(random);
+    (0..count).try_for_each(|_| {
+        let bytes = inputs::damaged(random, &silo);
+        let length = random.below(2 * silo.answers_length() as u64) as usize;
+        comparison.sheet(&bytes, &[length])
+    })
+}
+
+/// Damaged sheets for each accepted one of a round.
+const DAMAGED: u64 = 40;
+
+/// A round of the long run: an accepted silo, a pair, and damaged sheets.
+pub fn round(comparison: &mut Comparison, random: &mut Random) -> Outcome {
+    accepted(comparison, random, 1)?;
+    pairs(comparison, random, 1)?;
+    damaged(comparison, random, DAMAGED)
+}
+
+/// The catalogue call for every row and wall, for some that are not there, and for buffers of several lengths; tells how many calls had
+/// each answer.
+pub fn catalogue(comparison: &Comparison) -> Result<BTreeMap<u32, u64>, Difference> {
+    let mut calls = BTreeMap::new();
+    let rows = (0..TABLE.len() as u32 + 3).chain([255, 256, 1 << 16, 1 << 31, u32::MAX]);
+    for row in rows {
+        for wall in [0, 1, 2, 3, 256, 1 << 16, u32::MAX] {
+            for length in [14, 0, 1, 13, 15, 28] {
+                *calls.entry(comparison.catalogue(row, wall, length)?).or_insert(0) += 1;
+            }
+        }
+    }
+    Ok(calls)
+}

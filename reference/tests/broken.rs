@@ -1,0 +1,305 @@
+//! Broken stand-ins for the library: the comparison has to find each of them in what the other tests compare.
+//!
+//! Each calls the library and changes what it leaves or answers: the worthless versions of document 01, its traps, single numbers and
+//! limits one off, rules in another order, and memory that is written to where it must not be.
+
+mod linked;
+
+use linked::Linked;
+use reference::calls::{Library, Outcome};
+use reference::compare::Comparison;
+use reference::exponential::exponential;
+use reference::formulas::{self, HORIZONTAL};
+use reference::fraction::{fraction, whole, Fraction, Real};
+use reference::inputs::Random;
+use reference::sheet::{parse, records, Silo};
+use reference::{limits, order, runs};
+
+type Loads = fn(&[u8], &mut [u32]) -> u32;
+type Length = fn(&[u8]) -> u64;
+type Write = fn(*mut u8, *mut [u32]);
+
+/// The load call and the length call, and what the load call writes to besides: the sheet from its first byte on, or the list.
+struct Broken {
+    loads: Loads,
+    answers_length: Length,
+    write: Write,
+}
+
+impl Library for Broken {
+    unsafe fn loads(&self, sheet: *const [u8], answers: *mut [u32]) -> u32 {
+        let answer = (self.loads)(&*sheet, &mut *answers);
+        (self.write)(sheet.cast_mut().cast(), answers);
+        answer
+    }
+
+    unsafe fn answers_length(&self, sheet: *const [u8]) -> u64 {
+        (self.answers_length)(&*sheet)
+    }
+
+    unsafe fn catalogue(&self, row: u32, wall: u32, record: *mut [u8]) -> u32 {
+        Linked.catalogue(row, wall, record)
+    }
+}
+
+/// The library itself.
+const WHOLE: Broken = Broken { loads, answers_length, write: |_, _| () };
+
+fn loads(sheet: &[u8], list: &mut [u32]) -> u32 {
+    // SAFETY: each pointer is a slice's own.
+    unsafe { Linked.loads(sheet, list) }
+}
+
+fn answers_length(sheet: &[u8]) -> u64 {
+    // SAFETY: the pointer is a slice's own.
+    unsafe { Linked.answers_length(sheet) }
+}
+
+/// The library's answer, and its list changed where it succeeds.
+fn filled(sheet: &[u8], list: &mut [u32], change: fn(&Silo, &mut [u32])) -> u32 {
+    let answer = loads(sheet, list);
+    if let (0, Ok(silo)) = (answer, parse(sheet)) {
+        change(&silo, list);
+    }
+    answer
+}
+
+/// Each row below the brim changed.
+fn each_row(silo: &Silo, list: &mut [u32], change: impl Fn(&mut [u32])) {
+    let rows = list[..8 * silo.depths.len()].chunks_mut(8);
+    rows.filter(|row| row[0] > 0).for_each(change);
+}
+
+/// A p_hf, with p_he and p_p made from it.
+fn put_horizontal(silo: &Silo, row: &mut [u32], p_hf: u64) {
+    let p_he = whole(p_hf).times(&formulas::discharge(silo)).up();
+    row[1] = p_hf as u32;
+    row[5] = p_he as u32;
+    row[7] = whole(p_he).times(&formulas::patch(silo)).up() as u32;
+}
+
+/// p_hf at every depth as P times a bracket of q, rounded up, with all that is made from it.
+fn put_bracket(silo: &Silo, list: &mut [u32], bracket: fn(&Fraction) -> Fraction) {
+    let p_hf = |depth: u64| {
+        let q = formulas::q(silo, HORIZONTAL, depth);
+        bracket(&q).times(&formulas::before_bracket(silo)[0]).up()
+    };
+    each_row(silo, list, |row| put_horizontal(silo, row, p_hf(row[0].into())));
+    let strakes = list.len() - silo.strakes.len();
+    for (load, edge) in list[strakes..].iter_mut().zip(silo.edges()) {
+        *load = whole(p_hf(edge)).times(&formulas::discharge(silo)).up() as u32;
+    }
+}
+
+/// 1 - e^-q, from above.
+fn bracket(q: &Fraction) -> Fraction {
+    Real::exactly(whole(1)).minus(&exponential(q)).high
+}
+
+/// The greatest whole number not above a fraction.
+fn down(exact: &Fraction) -> u64 {
+    exact.up() - u64::from(whole(exact.up()) != *exact)
+}
+
+/// The library's answer, or a refusal of accepted silos of some kind.
+fn refusing(sheet: &[u8], list: &mut [u32], refusal: u32, wrongly: fn(&Silo) -> bool) -> u32 {
+    match parse(sheet) {
+        Ok(silo) if wrongly(&silo) && list.len() == silo.answers_length() => refusal,
+        _ => loads(sheet, list),
+    }
+}
+
+/// The library's answer, for a refused sheet of some kind that of another sheet.
+fn taken_for(sheet: &[u8], list: &mut [u32], other: fn(Silo) -> Option<Silo>) -> u32 {
+    match (parse(sheet), records(sheet).ok().and_then(other)) {
+        (Err(_), Some(silo)) => loads(&silo.sheet(), list),
+        _ => loads(sheet, list),
+    }
+}
+
+/// Wrong answer lists.
+const LISTS: &[(&str, Loads)] = &[
+    ("the deep limit at every depth", |sheet, list| {
+        filled(sheet, list, |silo, list| put_bracket(silo, list, |_| whole(1)))
+    }),
+    ("one fixed table", |sheet, list| filled(sheet, list, |_, list| list.fill(10_000))),
+    ("refuses every sheet", |_, _| 2),
+    ("accepts and writes nothing", |sheet, list| loads(sheet, &mut list.to_vec())),
+    ("the first row repeated", |sheet, list| {
+        filled(sheet, list, |silo, list| {
+            let first = list[..8].to_vec();
+            each_row(silo, list, |row| row[1..].copy_from_slice(&first[1..]));
+        })
+    }),
+    ("one friction for all loads", |sheet, list| {
+        filled(sheet, list, |silo, list| {
+            let weight = &formulas::before_bracket(silo)[2];
+            each_row(silo, list, |row| {
+                let q = formulas::q(silo, HORIZONTAL, row[0].into());
+                row[2] = bracket(&q).times(weight).up() as u32;
+                row[6] = fraction(11 * u64::from(row[2]), 10).up() as u32;
+            });
+        })
+    }),
+    ("q rounded down to 2^-33", |sheet, list| {
+        filled(sheet, list, |silo, list| {
+            put_bracket(silo, list, |q| {
+                bracket(&fraction(down(&q.times(&whole(1 << 33))), 1 << 33))
+            });
+        })
+    }),
+    ("e^-q too high by 2^-40", |sheet, list| {
+        filled(sheet, list, |silo, list| {
+            put_bracket(silo, list, |q| bracket(q).minus(&fraction(1, 1 << 40)));
+        })
+    }),
+    ("P_w added up from rounded discharge loads", |sheet, list| {
+        filled(sheet, list, |silo, list| {
+            let (mut above, mut sum) = (0, 0);
+            for row in list[..8 * silo.depths.len()].chunks_mut(8) {
+                sum += u64::from(row[0] - above) * u64::from(row[6]) / 1_000;
+                (above, row[4]) = (row[0], sum as u32);
+            }
+        })
+    }),
+    ("α from the vertical", |sheet, list| {
+        filled(sheet, list, |silo, list| {
+            let turned = Silo { hopper_height: silo.run, run: silo.hopper_height, ..silo.clone() };
+            let vertical = formulas::filling(silo, silo.foot()).vertical;
+            for k in 0..if silo.run == 0 { 0 } else { 5 } {
+                let share = formulas::hopper_share(&turned, k);
+                let normal = formulas::n3(&turned).plus(&vertical.times(&share)).high.up();
+                list[8 * silo.depths.len() + k as usize] = normal as u32;
+            }
+        })
+    }),
+    ("p_he rounded down", |sheet, list| {
+        filled(sheet, list, |silo, list| {
+            each_row(silo, list, |row| {
+                row[5] = down(&whole(row[1].into()).times(&formulas::discharge(silo))) as u32;
+            });
+        })
+    }),
+    ("a patch load from e_i alone", |sheet, list| {
+        filled(sheet, list, |silo, list| {
+            let inner = Silo { e_o: 0, ..silo.clone() };
+            each_row(silo, list, |row| put_horizontal(&inner, row, row[1].into()));
+        })
+    }),
+    ("strakes at their upper edges", |sheet, list| {
+        filled(sheet, list, |silo, list| {
+            let at = list.len() - silo.strakes.len();
+            list[at..].rotate_right(1);
+            list[at] = 0;
+        })
+    }),
+    ("p_hf one more at odd depths that are no lower edge", |sheet, list| {
+        filled(sheet, list, |silo, list| {
+            each_row(silo, list, |row| {
+                let raised = row[0] % 2 == 1 && !silo.edges().contains(&row[0].into());
+                put_horizontal(silo, row, u64::from(row[1]) + u64::from(raised));
+            });
+        })
+    }),
+    ("p_hf one more where two depths are listed", |sheet, list| {
+        filled(sheet, list, |silo, list| {
+            if silo.depths.len() == 2 {
+                each_row(silo, list, |row| put_horizontal(silo, row, u64::from(row[1]) + 1));
+            }
+        })
+    }),
+];
+
+/// Limits one off, and rules in another order.
+const REFUSALS: &[(&str, Loads)] = &[
+    ("refuses d = 500", |sheet, list| refusing(sheet, list, 6, |silo| silo.section == [500])),
+    ("refuses depth V", |sheet, list| {
+        refusing(sheet, list, 11, |silo| silo.depths.last() == Some(&silo.foot()))
+    }),
+    ("refuses 4e = d_c", |sheet, list| refusing(sheet, list, 8, |silo| 4 * silo.e_o == silo.d_c())),
+    ("refuses 200 depths", |sheet, list| refusing(sheet, list, 4, |silo| silo.depths.len() == 200)),
+    ("takes depth V + 1 for V", |sheet, list| {
+        taken_for(sheet, list, |silo| {
+            let foot = silo.foot();
+            let (last, above) = silo.depths.split_last()?;
+            let depths = [above, &[foot]].concat();
+            (*last == foot + 1).then(|| Silo { depths, ..silo.clone() })
+        })
+    }),
+    ("takes e for e modulo 2^30", |sheet, list| {
+        taken_for(sheet, list, |silo| Some(Silo { e_i: silo.e_i % (1 << 30), ..silo }))
+    }),
+    ("judges the shape before the depths", |sheet, list| {
+        taken_for(sheet, list, |silo| {
+            let shape = Silo { depths: vec![0], ..silo };
+            matches!(parse(&shape.sheet()), Err(12 | 13)).then_some(shape)
+        })
+    }),
+    ("judges the list's length first", |sheet, list| {
+        let due = records(sheet).map(|silo| silo.answers_length());
+        if due.is_ok_and(|due| due != list.len()) {
+            14
+        } else {
+            loads(sheet, list)
+        }
+    }),
+];
+
+/// Wrong answers of the length call.
+const LENGTHS: &[(&str, Length)] = &[
+    ("a length without its mark", |sheet| answers_length(sheet) % (1 << 32)),
+    ("one number too many", |sheet| answers_length(sheet) + u64::from(parse(sheet).is_ok())),
+    ("a mark on refusals too", |sheet| (1 << 32) | answers_length(sheet)),
+];
+
+/// Memory written to besides; canaries stand beside the sheet and the list.
+const WRITES: &[(&str, Write)] = &[
+    // SAFETY of all four: a canary, the sheet's first byte or canary, or a number of the list is written.
+    ("one number past the list", |_, list| unsafe {
+        list.cast::<u32>().add(list.len()).write(0);
+    }),
+    ("one number before the list", |_, list| unsafe { list.cast::<u32>().sub(1).write(0) }),
+    ("the sheet's first byte", |sheet, _| unsafe { sheet.write(1) }),
+    ("a refused list's last number", |_, list| unsafe {
+        let last = list.cast::<u32>().wrapping_add(list.len().saturating_sub(1));
+        if !list.is_empty() && last.read() == reference::calls::UNTOUCHED {
+            last.write(0);
+        }
+    }),
+];
+
+/// The sheets of the other tests, as many of each random kind.
+fn compared(library: &dyn Library) -> Outcome {
+    let mut comparison = Comparison::with(library);
+    let mut random = Random::new(1_991);
+    runs::table(&mut comparison, &limits::sheets())?;
+    runs::table(&mut comparison, &order::sheets())?;
+    runs::accepted(&mut comparison, &mut random, 3_000)?;
+    runs::pairs(&mut comparison, &mut random, 2_000)
+}
+
+fn is_found(name: &str, broken: Broken) {
+    let difference = compared(&broken).expect_err(name);
+    println!("found, {name}: {}", difference.what);
+}
+
+#[test]
+fn broken_load_calls_are_found() {
+    for (name, loads) in LISTS.iter().chain(REFUSALS) {
+        is_found(name, Broken { loads: *loads, ..WHOLE });
+    }
+}
+
+#[test]
+fn broken_length_calls_are_found() {
+    for (name, answers_length) in LENGTHS {
+        is_found(name, Broken { answers_length: *answers_length, ..WHOLE });
+    }
+}
+
+#[test]
+fn stray_writes_are_found() {
+    for (name, write) in WRITES {
+        is_found(name, Broken { write: *write, ..WHOLE });
+    }
+}
