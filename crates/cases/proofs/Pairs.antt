@@ -6,9 +6,9 @@ use mathlib.Core.Path.{_≡_}
 use native.Mathlib.Omega.{arith}
 use native.Mathlib.Nat.{mul-pos, mul-le-mul-left, le-of-mul-le-mul-right}
 use native.Mathlib.Decide.{decLt}
-use Rattle.fraction.specs.Fraction.{Fraction, _⊘_, whole}
-use Rattle.fraction.proofs.Order.{pos-left, pos-right}
-use Rattle.exponential.specs.Series.{S, Below, Reaches}
+use Rattle.fraction.specs.Fraction.{whole}
+use Rattle.fraction.proofs.Order.{pos-left}
+use Rattle.exponential.specs.Series.{S}
 use Rattle.exponential.proofs.SeriesLaws.{S-one}
 use Rattle.janssen.specs.declared.Section.{Section}
 use Rattle.janssen.specs.declared.Product.{Product}

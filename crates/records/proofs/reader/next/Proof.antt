@@ -23,11 +23,11 @@ use types.Run.{look, init, forget, stop, fld, from, load, of-opd, and-then, no-m
 use sound.WpLaws.{FmC, fmOf, WpFn-mono}
 use denote.RattleType.{owns}
 use denote.Laws.{Is, shows}
-use denote.Plain.{uint-makes, uint-lawful}
+use denote.Plain.{uint-lawful}
 use denote.Builtin.{u8, usize}
 use denote.Ref.{now}
 use denote.Slice.{ShrSlice}
-use denote.Steps.{only, owned, peeks, heard, nothing}
+use denote.Steps.{only, peeks, heard, nothing}
 use denote.Triple.Statement.{Contract, Triple}
 use denote.Triple.Call.{calls-at}
 use denote.Triple.Entry.{Vals, onEntry}

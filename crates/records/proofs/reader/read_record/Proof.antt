@@ -5,7 +5,7 @@
 --     Inv t            the loop's invariant, where t records are left to pass.        more, ends      a turn that passes one, and the turn that leaves the loop, with the rest of the body
 --     loops            the loop, by `Sound/Loop.antt`'s `loop-rule`.        walk      the MIR up to the loop
 -- Assumes nothing.
-use mathlib.Core.Path.{_≡_, refl, sym, _∙_, ap, subst}
+use mathlib.Core.Path.{_≡_, refl, sym, _∙_, subst}
 use Prim.Native.Nat.{ℕ, zero, suc, _+_, _*_, _<_, _≤_, _^_}
 use native.Mathlib.Omega.{arith}
 use mathlib.Core.Bool.{Bool}
