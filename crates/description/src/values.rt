@@ -1,10 +1,9 @@
 // The values that the records hold, read in place; any slice of bytes has them.
 ghost use mathlib.Core.Path.{_≡_};
-ghost use Prim.Native.Nat.{_+_, _*_, _<_, _≤_};
-ghost use lib.ListN.{getD};
+ghost use Prim.Native.Nat.{_<_, _≤_};
 ghost use Rattle.janssen.specs.Section.{side-a, side-b};
 ghost use Rattle.records.specs.Format.{payload, payload-length};
-ghost use Rattle.description.specs.Silo.{section-of, product-sent, factor-read, product-of, eccentricities-of, bottom-of, strake-count, depth-count, V-of, depths-of, wall-of};
+ghost use Rattle.description.specs.Silo.{section-of, product-sent, factor-read, product-of, eccentricities-of, bottom-of, strake-count, depth-count, V-of, wall-of};
 use crate::Bottom;
 use crate::Eccentricities;
 use crate::Wall;
@@ -137,12 +136,4 @@ pub fn depth_count(sheet: &[u8]) -> usize
     ensures { λ r. ⌜ (r ≡ depth-count (now (sheet .entry))) × (r < 16384) ⌝ }
 {
     payload_bytes(sheet, 5) as usize / 4
-}
-
-// The depth i, counted from 0, mm below the brim.
-pub fn depth(sheet: &[u8], i: usize) -> u64
-    requires { ⌜ (i < depth-count (now sheet)) × (i < 200) ⌝ }
-    ensures { λ r. ⌜ (r ≡ getD (depths-of (now (sheet .entry))) i 0) × (r < 4294967296) ⌝ }
-{
-    four_bytes(sheet, payload_place(sheet, 5) + 4 * i)
 }
