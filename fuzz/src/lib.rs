@@ -1,12 +1,10 @@
 //! The comparison with the second implementation as C functions, over a library that the caller links. Each stops the process at a
 //! difference.
 
-#[path = "../../reference/tests/linked/mod.rs"]
-mod linked;
-
 use reference::calls::Difference;
 use reference::compare::Comparison;
 use reference::inputs::Random;
+use reference::linked::Linked;
 use reference::{limits, order, runs};
 
 fn stop_at<T>(outcome: Result<T, Difference>) -> T {
@@ -22,11 +20,12 @@ fn stop_at<T>(outcome: Result<T, Difference>) -> T {
 /// `input` points to `length` bytes.
 #[no_mangle]
 pub unsafe extern "C" fn compare_input(input: *const u8, length: usize) {
-    let bytes = std::slice::from_raw_parts(input, length);
+    // SAFETY: the caller's own promise.
+    let bytes = unsafe { std::slice::from_raw_parts(input, length) };
     let byte = |i: usize| bytes.get(i).copied().unwrap_or(0);
     let list = usize::from(u16::from_le_bytes([byte(0), byte(1)]) % 2_048);
     let row = u32::from_le_bytes([byte(0), byte(1), byte(2), byte(3)]);
-    let mut comparison = Comparison::with(&linked::Linked);
+    let mut comparison = Comparison::with(&Linked);
     stop_at(comparison.sheet(bytes, &[list]));
     stop_at(comparison.catalogue(row, byte(4).into(), usize::from(byte(8)) % 32));
 }
@@ -34,7 +33,7 @@ pub unsafe extern "C" fn compare_input(input: *const u8, length: usize) {
 /// Compares the two calls that take a sheet: every limit, two rules broken at once, and random rounds; tells how many sheets.
 #[no_mangle]
 pub extern "C" fn compare_sheets(rounds: u64, seed: u64) -> u64 {
-    let mut comparison = Comparison::with(&linked::Linked);
+    let mut comparison = Comparison::with(&Linked);
     let mut random = Random::new(seed);
     stop_at(runs::table(&mut comparison, &limits::sheets()));
     stop_at(runs::table(&mut comparison, &order::sheets()));

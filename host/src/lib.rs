@@ -1,7 +1,5 @@
 //! `silo`: wall loads of grain silos by ENV 1991-4, for a person at the command line. Every load comes from the proved library.
 
-mod c;
-
 pub mod catalogue;
 pub mod commands;
 pub mod description;

@@ -1,7 +1,5 @@
 //! The proved library's three functions behind safe Rust: slices in, results out.
 
-use crate::c;
-
 /// Why a call was refused: the number that the library answers.
 #[derive(Clone, Copy, Debug, PartialEq, Eq)]
 pub struct Refusal(pub u32);
@@ -63,7 +61,7 @@ const LENGTH_MARK: u64 = 1 << 32;
 /// The length of the answer list that is due for a sheet, in numbers.
 pub fn answers_length(sheet: &[u8]) -> Result<usize, Refusal> {
     // SAFETY: the pointer and the length are those of one slice, which the call only reads.
-    let answer = unsafe { c::silo_answers_length(sheet.as_ptr(), sheet.len()) };
+    let answer = unsafe { silo_sys::silo_answers_length(sheet.as_ptr(), sheet.len()) };
     match answer.checked_sub(LENGTH_MARK) {
         Some(length) => Ok(length as usize),
         None => Err(Refusal(answer as u32)),
@@ -80,13 +78,15 @@ fn done(answer: u32) -> Result<(), Refusal> {
 /// Fills the answer list; on refusal it is as it was.
 pub fn fill_loads(sheet: &[u8], answers: &mut [u32]) -> Result<(), Refusal> {
     // SAFETY: each pointer comes with its own slice's length; `answers` is borrowed mutably, so it overlaps nothing.
-    done(unsafe { c::silo_loads(sheet.as_ptr(), sheet.len(), answers.as_mut_ptr(), answers.len()) })
+    done(unsafe {
+        silo_sys::silo_loads(sheet.as_ptr(), sheet.len(), answers.as_mut_ptr(), answers.len())
+    })
 }
 
 /// Writes the product record of a row of table 7.1; wall 0 is steel and wall 1 concrete. On refusal the buffer is as it was.
 pub fn fill_record(row: u32, wall: u32, record: &mut [u8]) -> Result<(), Refusal> {
     // SAFETY: the pointer and the length are those of one slice.
-    done(unsafe { c::silo_catalogue(row, wall, record.as_mut_ptr(), record.len()) })
+    done(unsafe { silo_sys::silo_catalogue(row, wall, record.as_mut_ptr(), record.len()) })
 }
 
 /// Numbers of a depth's row: z (mm), p_hf, p_wf, p_vf (Pa), P_w (N/m), p_he, p_we, p_p (Pa).

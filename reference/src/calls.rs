@@ -5,12 +5,17 @@ use std::ptr::slice_from_raw_parts_mut;
 
 /// What is compared: the proved library, or a stand-in for it. Memory is lent by pointers, so that nothing is taken for granted of what a
 /// call does to it.
-///
-/// # Safety
-/// Each pointer is to that many elements, and none overlaps another.
 pub trait Library {
+    /// # Safety
+    /// Sheet and list are lent whole and do not overlap.
     unsafe fn loads(&self, sheet: *const [u8], answers: *mut [u32]) -> u32;
+
+    /// # Safety
+    /// The sheet is lent whole.
     unsafe fn answers_length(&self, sheet: *const [u8]) -> u64;
+
+    /// # Safety
+    /// The buffer is lent whole.
     unsafe fn catalogue(&self, row: u32, wall: u32, record: *mut [u8]) -> u32;
 }
 

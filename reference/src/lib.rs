@@ -9,6 +9,7 @@ pub mod formulas;
 pub mod fraction;
 pub mod inputs;
 pub mod limits;
+pub mod linked;
 pub mod natural;
 pub mod order;
 pub mod runs;

@@ -286,10 +286,13 @@ fn kinds() -> Vec<Due> {
 /// Rule 4: payloads of each kind, of every length round those allowed. Strakes are of 2,000 mm, so that under four of them are squat.
 fn lengths() -> Vec<Due> {
     let strakes = |length: usize| match length {
-        2..=48 if length % 2 == 0 => 13 * u64::from(length < 8),
+        2..=48 if length.is_multiple_of(2) => 13 * u64::from(length < 8),
         _ => 4,
     };
-    let depths = |length: usize| if length % 4 == 0 && (4..=800).contains(&length) { 0 } else { 4 };
+    let depths = |length: usize| match length {
+        4..=800 if length.is_multiple_of(4) => 0,
+        _ => 4,
+    };
     let exactly = |due: usize| move |length: usize| if length == due { 0 } else { 4 };
     let mut sheets = Vec::new();
     for length in (0..60).chain(790..810) {

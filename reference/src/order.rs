@@ -5,6 +5,7 @@ use crate::limits::Due;
 use crate::sheet::Silo;
 
 type Break = fn(&mut Silo);
+type Damage = fn(&mut Vec<u8>, usize);
 
 /// A way to break each rule from 6 to 13 that leaves the others as they are, and can be joined with any but 12 with 13.
 const VALUES: [(u64, Break); 8] = [
@@ -19,7 +20,7 @@ const VALUES: [(u64, Break); 8] = [
 ];
 
 /// Damage to the bytes of one record, from its first byte on, and the rule that it breaks.
-const RECORD: [(u64, fn(&mut Vec<u8>, usize)); 4] = [
+const RECORD: [(u64, Damage); 4] = [
     (2, |sheet, at| sheet.truncate(at + 3)),
     (2, |sheet, at| sheet.truncate(at + 5)),
     (3, |sheet, at| sheet[at + 2] = 9),

@@ -3,15 +3,13 @@
 //! Each calls the library and changes what it leaves or answers: the worthless versions of document 01, its traps, single numbers and
 //! limits one off, rules in another order, and memory that is written to where it must not be.
 
-mod linked;
-
-use linked::Linked;
-use reference::calls::{Library, Outcome};
+use reference::calls::{Library, Outcome, UNTOUCHED};
 use reference::compare::Comparison;
 use reference::exponential::exponential;
 use reference::formulas::{self, HORIZONTAL};
 use reference::fraction::{fraction, whole, Fraction, Real};
 use reference::inputs::Random;
+use reference::linked::Linked;
 use reference::sheet::{parse, records, Silo};
 use reference::{limits, order, runs};
 
@@ -28,17 +26,20 @@ struct Broken {
 
 impl Library for Broken {
     unsafe fn loads(&self, sheet: *const [u8], answers: *mut [u32]) -> u32 {
-        let answer = (self.loads)(&*sheet, &mut *answers);
+        // SAFETY: both are lent whole and do not overlap, and the references end with the call.
+        let answer = unsafe { (self.loads)(&*sheet, &mut *answers) };
         (self.write)(sheet.cast_mut().cast(), answers);
         answer
     }
 
     unsafe fn answers_length(&self, sheet: *const [u8]) -> u64 {
-        (self.answers_length)(&*sheet)
+        // SAFETY: the sheet is lent whole, and nothing writes to it.
+        unsafe { (self.answers_length)(&*sheet) }
     }
 
     unsafe fn catalogue(&self, row: u32, wall: u32, record: *mut [u8]) -> u32 {
-        Linked.catalogue(row, wall, record)
+        // SAFETY: the caller's own promise.
+        unsafe { Linked.catalogue(row, wall, record) }
     }
 }
 
@@ -254,16 +255,23 @@ const LENGTHS: &[(&str, Length)] = &[
 
 /// Memory written to besides; canaries stand beside the sheet and the list.
 const WRITES: &[(&str, Write)] = &[
-    // SAFETY of all four: a canary, the sheet's first byte or canary, or a number of the list is written.
-    ("one number past the list", |_, list| unsafe {
-        list.cast::<u32>().add(list.len()).write(0);
+    ("one number past the list", |_, list| {
+        // SAFETY: the first canary after the list.
+        unsafe { list.cast::<u32>().add(list.len()).write(0) }
     }),
-    ("one number before the list", |_, list| unsafe { list.cast::<u32>().sub(1).write(0) }),
-    ("the sheet's first byte", |sheet, _| unsafe { sheet.write(1) }),
-    ("a refused list's last number", |_, list| unsafe {
-        let last = list.cast::<u32>().wrapping_add(list.len().saturating_sub(1));
-        if !list.is_empty() && last.read() == reference::calls::UNTOUCHED {
-            last.write(0);
+    ("one number before the list", |_, list| {
+        // SAFETY: the last canary before the list.
+        unsafe { list.cast::<u32>().sub(1).write(0) }
+    }),
+    ("the sheet's first byte", |sheet, _| {
+        // SAFETY: a byte of the sheet, or the canary after it where it is empty.
+        unsafe { sheet.write(1) }
+    }),
+    ("a refused list's last number", |_, list| {
+        // SAFETY: the list is lent whole, and no other reference to it is left.
+        let last = unsafe { &mut *list }.last_mut();
+        if let Some(last) = last.filter(|last| **last == UNTOUCHED) {
+            *last = 0;
         }
     }),
 ];

@@ -8,13 +8,12 @@
 //! of 4,000·f mm, f being the product of a row's two factors (4,140, 3,240 and 5,290 mm), z0 is 5 m for that row; so the library's
 //! pressure at 5,000·h/b mm has to lie from P·(K - 0.00005) to P·(K + 0.00005) + 2.
 
-mod linked;
-
 use reference::compare::Comparison;
 use reference::exponential::exponential;
 use reference::formulas::{self, Row, FRICTION, HORIZONTAL, VERTICAL};
 use reference::fraction::{fraction, whole, Fraction, Real};
 use reference::inputs::sample;
+use reference::linked::Linked;
 use reference::sheet::Silo;
 
 /// h/b in tenths, and K in ten-thousandths.
@@ -49,7 +48,7 @@ fn the_exact_bracket_is_the_printed_one() {
 
 #[test]
 fn the_pressures_follow_the_printed_brackets() {
-    let mut comparison = Comparison::with(&linked::Linked);
+    let mut comparison = Comparison::with(&Linked);
     // Row of factors, diameter, the row's place in `before_bracket`, and its column in the answer list.
     let rows = [(HORIZONTAL, 4_140, 0, 1), (VERTICAL, 3_240, 1, 3), (FRICTION, 5_290, 2, 2)];
     for (row, diameter, place, column) in rows {

@@ -1,12 +1,11 @@
 //! The cases that document 01 writes down; each sheet also compared as any other.
 
-mod linked;
-
 use reference::compare::Comparison;
 use reference::formulas;
 use reference::fraction::{fraction, whole};
 use reference::inputs::sample;
 use reference::limits::{of_height, Due};
+use reference::linked::Linked;
 use reference::runs;
 use reference::sheet::Silo;
 
@@ -24,7 +23,7 @@ fn from_low_strake(height: u64) -> Silo {
 
 #[test]
 fn the_loads_of_the_sample() {
-    let mut comparison = Comparison::with(&linked::Linked);
+    let mut comparison = Comparison::with(&Linked);
     comparison.accepted(&sample()).unwrap();
     assert!(formulas::before_bracket(&sample())[0] == whole(31_250), "P for p_hf");
     let list = comparison.answers(&sample()).unwrap();
@@ -43,7 +42,7 @@ fn the_loads_made_from_given_pressures() {
     let p_p = whole(24_636).times(&formulas::patch(&sample()));
     let p_we = whole(7_345).times(&fraction(11, 10));
     assert_eq!([p_he.up(), p_p.up(), p_we.up()], [24_636, 4_928, 8_080]);
-    let list = Comparison::with(&linked::Linked).answers(&sample()).unwrap();
+    let list = Comparison::with(&Linked).answers(&sample()).unwrap();
     let row = &list[8..16];
     assert!(row[1] != 17_597 || [row[5], row[7]] == [24_636, 4_928], "p_hf 17,597");
     assert!(row[2] != 7_345 || row[6] == 8_080, "p_wf 7,345");
@@ -76,14 +75,14 @@ fn accepted_and_refused_as_written() {
         (with(|silo| silo.depths = vec![10_001]), 11),
     ];
     let sheets: Vec<Due> = silos.map(|(silo, due)| (silo.sheet(), due)).into();
-    let mut comparison = Comparison::with(&linked::Linked);
+    let mut comparison = Comparison::with(&Linked);
     runs::table(&mut comparison, &sheets).unwrap();
     comparison.report([7, 8, 9, 11, 12, 13, 14]);
 }
 
 #[test]
 fn a_blank_factor_acts_as_135() {
-    let comparison = Comparison::with(&linked::Linked);
+    let comparison = Comparison::with(&Linked);
     let [blank, written] =
         [0, 135].map(|factor| comparison.answers(&with(|silo| silo.factor = factor)).unwrap());
     assert_eq!(blank, written);

@@ -1,14 +1,13 @@
 //! Damaged sheets: cut, extended, bytes and fields overwritten, noise, and numbers at or next to a limit.
 
-mod linked;
-
 use reference::compare::Comparison;
 use reference::inputs::Random;
+use reference::linked::Linked;
 use reference::runs;
 
 #[test]
 fn damaged_sheets() {
-    let mut comparison = Comparison::with(&linked::Linked);
+    let mut comparison = Comparison::with(&Linked);
     let mut random = Random::new(1_991);
     for _ in 0..700 {
         runs::damaged(&mut comparison, &mut random, 40).unwrap();

@@ -5,12 +5,10 @@
 //!
 //! A difference ends it with status 1 and the sheet in hexadecimal.
 
-#[path = "../../tests/linked/mod.rs"]
-mod linked;
-
 use reference::calls::Outcome;
 use reference::compare::Comparison;
 use reference::inputs::Random;
+use reference::linked::Linked;
 use reference::runs;
 use std::process::ExitCode;
 
@@ -33,7 +31,7 @@ fn run(comparison: &mut Comparison, sheets: u64, seed: u64) -> Outcome {
 
 fn main() -> ExitCode {
     let mut arguments: Vec<String> = std::env::args().skip(1).collect();
-    let mut comparison = Comparison::with(&linked::Linked);
+    let mut comparison = Comparison::with(&Linked);
     if arguments.first().is_some_and(|first| first == "--exactly") {
         arguments.remove(0);
         comparison.calls.canaries = 0;

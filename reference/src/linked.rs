@@ -1,0 +1,23 @@
+//! The proved library as what is compared.
+
+use crate::calls::Library;
+
+pub struct Linked;
+
+impl Library for Linked {
+    unsafe fn loads(&self, sheet: *const [u8], answers: *mut [u32]) -> u32 {
+        let (sheet_len, answers_len) = (sheet.len(), answers.len());
+        // SAFETY: each pointer goes with its own length, and the caller lends both whole.
+        unsafe { silo_sys::silo_loads(sheet.cast(), sheet_len, answers.cast(), answers_len) }
+    }
+
+    unsafe fn answers_length(&self, sheet: *const [u8]) -> u64 {
+        // SAFETY: the pointer goes with its own length, and the caller lends the sheet whole.
+        unsafe { silo_sys::silo_answers_length(sheet.cast(), sheet.len()) }
+    }
+
+    unsafe fn catalogue(&self, row: u32, wall: u32, record: *mut [u8]) -> u32 {
+        // SAFETY: the pointer goes with its own length, and the caller lends the buffer whole.
+        unsafe { silo_sys::silo_catalogue(row, wall, record.cast(), record.len()) }
+    }
+}

@@ -1,0 +1,23 @@
+//! The proved library's calls as `include/silo.h` declares them, which says what a sheet, a list and a refusal are. Nothing checks
+//! these declarations against the library.
+//!
+//! # Safety
+//! Each pointer is to as many elements as the length after it says, and is not null even where that is 0; memory that is written
+//! overlaps no other.
+
+extern "C" {
+    /// Fills the answer list for a sheet. Answers 0; or a refusal, 1 to 14, and the list is as it was.
+    pub fn silo_loads(
+        sheet: *const u8,
+        sheet_len: usize,
+        answers: *mut u32,
+        answers_len: usize,
+    ) -> u32;
+
+    /// The answer list's length in numbers. Answers 2^32 plus that length; or a refusal, 1 to 13.
+    pub fn silo_answers_length(sheet: *const u8, sheet_len: usize) -> u64;
+
+    /// Writes the product record of a row of table 7.1; wall 0 is steel, wall 1 concrete. Answers 0; or a refusal, 15 or 16, and the
+    /// buffer is as it was.
+    pub fn silo_catalogue(row: u32, wall: u32, record: *mut u8, record_len: usize) -> u32;
+}
