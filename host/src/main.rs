@@ -3,6 +3,7 @@
 use silo::catalogue;
 use silo::commands::{self, Format, Outcome};
 use silo::name::suggestion;
+use std::ffi::{OsStr, OsString};
 use std::io::{self, ErrorKind, Read, Write};
 use std::process::ExitCode;
 
@@ -53,27 +54,28 @@ output); 2 bad use, or a text that cannot be read
 /// A text or a sheet is far shorter.
 const LONGEST_FILE: u64 = 1 << 20;
 
+/// A file's name may be any bytes; messages show U+FFFD where they are not UTF-8.
 #[derive(Default)]
 struct Arguments {
     /// The command and its file.
-    words: Vec<String>,
+    words: Vec<OsString>,
     /// After `-o`.
-    output: Option<String>,
+    output: Option<OsString>,
     format: Option<Format>,
 }
 
 fn main() -> ExitCode {
-    let given = std::env::args_os().skip(1).map(|word| word.to_string_lossy().into_owned());
+    let given = std::env::args_os().skip(1);
     let (outcome, output) = arguments(given).and_then(run).unwrap_or_else(|why| {
         (commands::bad_use(format!("silo: {why}\nsilo --help shows the commands\n")), None)
     });
-    finish(outcome, output.as_deref().unwrap_or("-"))
+    finish(outcome, output.as_deref().unwrap_or(OsStr::new("-")))
 }
 
-fn arguments(mut given: impl Iterator<Item = String>) -> Result<Arguments, String> {
+fn arguments(mut given: impl Iterator<Item = OsString>) -> Result<Arguments, String> {
     let mut read = Arguments::default();
     while let Some(word) = given.next() {
-        match word.as_str() {
+        match word.to_string_lossy().into_owned().as_str() {
             "--help" | "-h" => return Ok(alone("help")),
             "--version" | "-V" => return Ok(alone("version")),
             "--csv" | "--json" if read.format.is_some() => {
@@ -93,43 +95,49 @@ fn arguments(mut given: impl Iterator<Item = String>) -> Result<Arguments, Strin
 }
 
 fn alone(command: &str) -> Arguments {
-    Arguments { words: vec![command.to_string()], ..Arguments::default() }
+    Arguments { words: vec![command.into()], ..Arguments::default() }
 }
 
 /// What a command says, and the file that its output goes to.
-fn run(arguments: Arguments) -> Result<(Outcome, Option<String>), String> {
+fn run(arguments: Arguments) -> Result<(Outcome, Option<OsString>), String> {
     let Arguments { words, output, format } = arguments;
-    let words: Vec<&str> = words.iter().map(String::as_str).collect();
-    let (command, file) = match words[..] {
-        [] => return Err("a command is due".to_string()),
-        ["help"] => return Ok((commands::said(HELP), None)),
-        ["version"] => return Ok((commands::said(VERSION), None)),
-        ["catalogue"] => return Ok((commands::said(&catalogue::table()), output)),
-        ["catalogue", more, ..] => return Err(format!("catalogue {more}: no file is due")),
-        [command] => return Err(file_due(command)),
-        [command, file] => (command, file),
-        [_, _, more, ..] => return Err(format!("{more}: one file is due")),
+    let (command, files) = words.split_first().ok_or("a command is due")?;
+    let command: &str = &command.to_string_lossy();
+    let file = match (command, files) {
+        ("help", []) => return Ok((commands::said(HELP), None)),
+        ("version", []) => return Ok((commands::said(VERSION), None)),
+        ("catalogue", []) => return Ok((commands::said(&catalogue::table()), output)),
+        ("catalogue", [more, ..]) => {
+            return Err(format!("catalogue {}: no file is due", more.display()))
+        }
+        (_, []) => return Err(file_due(command)),
+        (_, [file]) => file,
+        (_, [_, more, ..]) => return Err(format!("{}: one file is due", more.display())),
     };
     if format.is_some() && command != "loads" {
         return Err("--csv and --json are for silo loads".to_string());
     }
     let writes = ["sheet", "draw"].contains(&command);
     if writes && output.is_none() {
-        return Err(format!("{command} {file}: -o and the file to write are due"));
+        return Err(format!("{command} {}: -o and the file to write are due", file.display()));
     }
-    if file != "-" && output.as_deref() == Some(file) {
-        return Err(format!("{command} {file}: -o would write over it"));
+    if file != "-" && output.as_ref() == Some(file) {
+        return Err(format!("{command} {}: -o would write over it", file.display()));
     }
-    let name = if file == "-" { "standard input" } else { file };
+    let outcome = run_on(command, file, format)?;
+    Ok((outcome, output))
+}
+
+fn run_on(command: &str, file: &OsStr, format: Option<Format>) -> Result<Outcome, String> {
+    let name: &str = if file == "-" { "standard input" } else { &file.to_string_lossy() };
     let bytes = || read(file).map_err(|error| format!("{name}: {error}"));
-    let outcome = match command {
+    Ok(match command {
         "loads" => commands::loads(name, &bytes()?, format.unwrap_or(Format::Table)),
         "draw" => commands::draw(name, &bytes()?),
         "sheet" => commands::sheet(name, &bytes()?),
         "explain" => commands::explain(name, &bytes()?),
         _ => return Err(file_due(command)),
-    };
-    Ok((outcome, output))
+    })
 }
 
 /// A command that stands without its file, or is unknown.
@@ -142,11 +150,11 @@ fn file_due(command: &str) -> String {
     }
 }
 
-fn read(file: &str) -> io::Result<Vec<u8>> {
+fn read(file: &OsStr) -> io::Result<Vec<u8>> {
     let mut bytes = Vec::new();
-    let source: Box<dyn Read> = match file {
-        "-" => Box::new(io::stdin()),
-        _ => Box::new(std::fs::File::open(file)?),
+    let source: Box<dyn Read> = match file == "-" {
+        true => Box::new(io::stdin()),
+        false => Box::new(std::fs::File::open(file)?),
     };
     source.take(LONGEST_FILE + 1).read_to_end(&mut bytes)?;
     if bytes.len() as u64 > LONGEST_FILE {
@@ -156,18 +164,18 @@ fn read(file: &str) -> io::Result<Vec<u8>> {
 }
 
 /// Writes messages and output. A reader that has gone away is no error.
-fn finish(outcome: Outcome, output: &str) -> ExitCode {
+fn finish(outcome: Outcome, output: &OsStr) -> ExitCode {
     let _ = io::stderr().write_all(outcome.messages.as_bytes());
     if outcome.output.is_empty() {
         return ExitCode::from(outcome.status);
     }
-    let written = match output {
-        "-" => io::stdout().write_all(&outcome.output).and_then(|_| io::stdout().flush()),
-        file => std::fs::write(file, &outcome.output),
+    let written = match output == "-" {
+        true => io::stdout().write_all(&outcome.output).and_then(|_| io::stdout().flush()),
+        false => std::fs::write(output, &outcome.output),
     };
     match written {
         Err(error) if error.kind() != ErrorKind::BrokenPipe => {
-            let _ = writeln!(io::stderr(), "silo: {output}: {error}");
+            let _ = writeln!(io::stderr(), "silo: {}: {error}", output.display());
             ExitCode::from(commands::BAD_USE)
         }
         _ => ExitCode::from(outcome.status),

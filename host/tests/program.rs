@@ -2,9 +2,11 @@
 
 mod common;
 
-use common::{root, stored};
+use common::{root, sample, stored};
+use std::ffi::OsStr;
 use std::io::Write;
-use std::path::PathBuf;
+use std::os::unix::ffi::OsStrExt;
+use std::path::{Path, PathBuf};
 use std::process::{Command, Output, Stdio};
 
 fn silo(arguments: &[&str]) -> Command {
@@ -32,7 +34,7 @@ fn fed(arguments: &[&str], input: &[u8]) -> Output {
     child.wait_with_output().expect("the program ends")
 }
 
-fn scratch(name: &str) -> PathBuf {
+fn scratch(name: impl AsRef<Path>) -> PathBuf {
     PathBuf::from(env!("CARGO_TARGET_TMPDIR")).join(name)
 }
 
@@ -96,7 +98,7 @@ fn pages_as_stored() {
 fn sheets_of_the_samples() {
     for (name, status) in SAMPLES {
         let text = format!("samples/{name}.silo");
-        let [sheet, again] = [scratch(&format!("{name}.sheet")), scratch(&format!("{name}.again"))];
+        let [sheet, again] = [scratch(format!("{name}.sheet")), scratch(format!("{name}.again"))];
         let [sheet, again] = [&sheet, &again].map(|path| path.to_str().expect("UTF-8"));
         written(&["sheet", &text, "-o", sheet], status);
         let explained = written(&["explain", sheet], 0);
@@ -110,6 +112,22 @@ fn sheets_of_the_samples() {
         assert_eq!(from_text.stdout, from_bytes.stdout);
         assert_eq!(from_text.status, from_bytes.status);
     }
+}
+
+/// Two names that are not UTF-8 and look the same where they are shown.
+#[test]
+fn names_of_any_bytes() {
+    let [text, sheet] = [b"tower-\xff", b"tower-\xfe"].map(|name| scratch(OsStr::from_bytes(name)));
+    std::fs::write(&text, sample("wheat-tower.silo")).expect("a text");
+    let ended = |command: &mut Command| command.output().expect("the program runs");
+    let made = ended(silo(&["sheet"]).arg(&text).arg("-o").arg(&sheet));
+    assert_eq!(made.status.code(), Some(0), "{made:?}");
+    for file in [&text, &sheet] {
+        stored("samples/wheat-tower.csv", &ended(silo(&["loads", "--csv"]).arg(file)).stdout);
+    }
+    let refused = ended(silo(&["explain"]).arg(&text));
+    let message = String::from_utf8(refused.stderr).expect("UTF-8");
+    assert!(message.ends_with("/tower-\u{fffd}: text; silo explain reads a sheet of bytes\n"));
 }
 
 #[test]
