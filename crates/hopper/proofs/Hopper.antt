@@ -11,7 +11,7 @@ use Rattle.fraction.proofs.Up.{up-lt, up-le, up-mono, up-above, up-nest}
 use Rattle.janssen.specs.declared.Section.{Section}
 use Rattle.janssen.specs.declared.Product.{Product}
 use Rattle.janssen.specs.Section.{R, side-a, side-b}
-use Rattle.janssen.specs.Range.{InRange}
+use Rattle.janssen.specs.program.Range.{InRange}
 use Rattle.allowance.specs.Allowance.{Allowance}
 use Rattle.allowance.proofs.LowerLaws.{Filled}
 use Rattle.allowance.proofs.Rounding.{up-same, wholes}

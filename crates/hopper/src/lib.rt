@@ -2,7 +2,7 @@
 ghost use mathlib.Core.Path.{_≡_};
 ghost use Prim.Native.Nat.{_+_, _*_, _^_, _<_, _≤_};
 ghost use Rattle.fraction.specs.Fraction.{_⊘_, up};
-ghost use Rattle.janssen.specs.Range.{InRange};
+ghost use Rattle.janssen.specs.program.Range.{InRange};
 ghost use Rattle.hopper.specs.Hopper.{B, n3, p-n, p-t};
 use fraction::Quotient;
 use janssen::Pascals;

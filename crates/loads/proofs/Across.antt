@@ -2,16 +2,21 @@
 -- deeper place never has the smaller filling pressure.
 -- Assumes nothing.
 use Prim.Native.Nat.{ℕ, _≤_, _<_}
+use mathlib.Core.Bool.{true}
 use mathlib.Core.Path.{_≡_}
 use mathlib.Core.List.{List}
 use lib.ListN.{take}
-use Rattle.janssen.specs.Filling.{Kind}
+use Rattle.janssen.specs.program.Pressure.{computed}
 use Rattle.records.specs.Format.{place}
 use Rattle.description.specs.Silo.{depth-count}
-use Rattle.loads.specs.Claim.{depth, filling-number, LeftFor}
-use Rattle.loads.proofs.Demand.{claim-left}
+use Rattle.records.specs.Place.{Load}
+use Rattle.rows.specs.Load.{load-depth}
+use Rattle.loads.specs.Answers.{silo-of, depth, load-in}
+use Rattle.loads.specs.Claim.{of-filling, LeftFor}
+use Rattle.loads.proofs.Demand.{claim}
 
-pub across : (s s' list list' : List ℕ) → LeftFor s list → LeftFor s' list' → take (place s 2) s ≡ take (place s' 2) s'
-    → (k : Kind) (i j : ℕ) → i < depth-count s → j < depth-count s' → depth s i ≤ depth s' j
-    → filling-number list i k ≤ filling-number list' j k
-across s s' list list' left left' e k i j h h' l = claim-left s list left .ordered s' list' left' e k i j h h' .rises l
+pub across : (s s' list list' : List ℕ) → LeftFor computed s list → LeftFor computed s' list' → take (place s 2) s ≡ take (place s' 2) s'
+    → (l : Load) → of-filling l ≡ true → (i j : ℕ) → i < depth-count s → j < depth-count s' → load-depth (silo-of s) (depth s i) ≤ load-depth (silo-of s') (depth s' j)
+    → load-in s list l i ≤ load-in s' list' l j
+across s s' list list' left left' e l o i j h h' g =
+    claim s list (left .accepted) (left .filled) .ordered s' list' left' e l o i j h h' .rises g

@@ -1,44 +1,40 @@
--- Demand 3, whole: every list that the load call leaves for an accepted sheet meets `Claim` (`claim`).
+-- Demand 3, whole: every list that holds each number in its place for an accepted sheet meets `Claim` (`claim`).
 -- Acceptance puts section, product, factor and eccentricities inside their ranges and every depth used, listed or not, at most at
--- the wall's foot, which is less than ten widths down. There each row holds by its own laws, and the order between two lists is the
--- order of the named pressures, which have nothing in them but section, product and depth.
+-- the wall's foot, which is less than ten widths down. There each number holds by its own law (`holds`, `rises`), and the order between
+-- two lists is the order of the named pressures, which have nothing in them but section, product and depth.
 -- Assumes nothing.
-use Prim.Native.Nat.{ℕ, zero, suc, _*_, _≤_, _<_}
-use mathlib.Core.Path.{_≡_, ap, ap₂, sym, subst, _∙_}
+use Prim.Native.Nat.{ℕ, zero, suc, _+_, _-_, _≤_, _<_}
+use mathlib.Core.Bool.{true, false≢true}
+use mathlib.Core.Path.{_≡_, refl, ap, sym, subst}
 use mathlib.Core.List.{List}
 use mathlib.Core.Logic.{⊎-elim}
 use native.Mathlib.Omega.{arith}
 use lib.ListN.{length}
-use Rattle.janssen.specs.declared.Section.{Section}
-use Rattle.janssen.specs.declared.Product.{Product}
-use Rattle.janssen.specs.Section.{d-c}
-use Rattle.janssen.specs.Range.{InRange, InDepth}
+use Rattle.janssen.proofs.FillingLaws.{filling-rises}
+use Rattle.janssen.proofs.WallLoadOrder.{wall-load-rises}
 use Rattle.janssen.specs.Filling.{Kind}
 use Rattle.janssen.specs.Filling.Kind.{horizontal, vertical, wall-friction}
-use Rattle.janssen.specs.Pressure.{filling}
-use Rattle.janssen.proofs.FillingLaws.{filling-rises}
+use Rattle.janssen.specs.program.Range.{InRange, InDepth}
+use Rattle.janssen.specs.program.Pressure.{filling, wall-load, computed}
 use Rattle.records.specs.Format.{place, payload-length}
-use Rattle.records.proofs.Tests.{orElse-0}
-use Rattle.description.specs.declared.Silo.{Silo}
-use Rattle.description.specs.Silo.{silo-of, section-of, product-of, depth-count, edge-of, V-of}
+use Rattle.description.specs.Silo.{section-of, product-of, bottom-of, depth-count, strakes-of, edge-of, V-of}
+use Rattle.description.proofs.Sums.{sum-under}
 use Rattle.sheet.specs.Refusal.{refusal-of}
 use Rattle.sheet.specs.Accepted.{Accepted}
 use Rattle.sheet.proofs.Acceptance.{accepted}
-use Rattle.sheet.proofs.Described.{edge-most, V-most, V-slender, product-range}
-use Rattle.rows.specs.Rows.{depth-row, bottom-row}
-use Rattle.rows.proofs.RowLaws.{depth-holds, strake-holds, floor-holds, hopper-holds}
-use Rattle.loads.specs.Answers.{e-of, answers, loads-refusal, left-by}
-use Rattle.loads.specs.Claim.{depth, BottomHolds, filling-number, LeftFor, SameSectionAndProduct, Ordered, Claim}
-use Rattle.loads.proofs.Places.{length-answers, depth-at, bottom-at, depth-number-at, strake-at}
+use Rattle.sheet.proofs.Described.{edge-most, V-most, V-slender, d-c-most, product-range}
+use Rattle.records.specs.Place.{Load}
+use Rattle.rows.specs.Load.{Silo, load-depth, number}
+use Rattle.records.specs.Place.Load.{z, phf, pwf, pvf, PW, phe, pwe, pp}
+use Rattle.rows.specs.Holds.{Holds}
+use Rattle.rows.specs.program.Basis.{Reached, Fits}
+use Rattle.rows.proofs.RowLaws.{load-depth-most, holds, rises, bottom-holds}
+use Rattle.loads.specs.Answers.{silo-of, depth, bottom-in, Filled}
+use Rattle.loads.specs.Claim.{of-filling, SameSectionAndProduct, Claim}
 use Rattle.loads.proofs.SameRecords.{same-section, same-product}
 
-bottom-holds : (c : Section) (p : Product) (H r foot : ℕ) → InRange c p → InDepth c foot → BottomHolds c p H r foot (bottom-row c p H r foot)
-bottom-holds c p H zero foot i d = floor-holds c p foot i d H
-bottom-holds c p H (suc r) foot i d = hopper-holds c p foot i d H (suc r) (omega arith)
-
 module _ (s : List ℕ) (a : Accepted s) where
-  pub in-range : InRange (silo-of s .section) (silo-of s .product)
-  unfolding silo-of
+  pub in-range : InRange (section-of s) (product-of s)
   in-range =
       let v = a .values in
       let p = product-range s a in
@@ -50,37 +46,54 @@ module _ (s : List ℕ) (a : Accepted s) where
         μ-in = record { least = p .friction-least; most = p .friction-most };
       }
 
-  pub factor-fits : silo-of s .product .factor ≤ 200
-  unfolding silo-of
-  factor-fits = product-range s a .factor-most
-
-  pub centred : 4 * e-of (silo-of s) ≤ d-c (silo-of s .section)
-  unfolding silo-of
-  centred = omega (arith, a .values .inlet-most, a .values .outlet-most)
-
   -- every depth at most at the wall's foot
-  pub in-depth : (z : ℕ) → z ≤ V-of s → InDepth (silo-of s .section) z
-  unfolding silo-of
-  in-depth z h = record { slender = omega (arith, V-slender s a); wall = omega (arith, V-most s a) }
+  pub reached : (x : ℕ) → x ≤ V-of s → Reached (silo-of s) x
+  reached x h =
+      record {
+        slender = omega (arith, V-slender s a, load-depth-most (silo-of s) x);
+        wall = omega (arith, V-most s a, load-depth-most (silo-of s) x);
+      }
 
-  pub depth-fits : (i : ℕ) → i < depth-count s → InDepth (silo-of s .section) (depth s i)
-  depth-fits i h = in-depth (depth s i) (a .depths-most i h)
+  pub depth-reached : (i : ℕ) → i < depth-count s → Reached (silo-of s) (depth s i)
+  depth-reached i h = reached (depth s i) (a .depths-most i h)
 
-  -- the filling pressure of a kind, at its place
-  filling-at : (k : Kind) (i : ℕ) → i < depth-count s → filling-number (answers s) i k ≡ filling k (section-of s) (product-of s) (depth s i)
-  unfolding depth-row silo-of
-  filling-at horizontal i h = depth-number-at s i 1 h (omega arith)
-  filling-at wall-friction i h = depth-number-at s i 2 h (omega arith)
-  filling-at vertical i h = depth-number-at s i 3 h (omega arith)
+  edge-reached : (k : ℕ) → Reached (silo-of s) (edge-of s k)
+  edge-reached k = reached (edge-of s k) (edge-most s k)
 
--- a list that the call left is the answer list of an accepted sheet
-left-accepted : (s list : List ℕ) → LeftFor s list → Accepted s
-unfolding loads-refusal
-left-accepted s list l = accepted s (orElse-0 _ _ (l .accepted) .0)
+  -- H and r are at most 25,000
+  bottom-fits : (bottom-of s .height ≤ 25000) × (bottom-of s .run ≤ 25000)
+  bottom-fits =
+      ⊎-elim (λ o. (omega (arith, o .0), omega (arith, o .1))) (λ x. (x .height-most, omega (arith, x .run-narrow, d-c-most s a)))
+      (a .values .bottom-shape)
 
-left-is : (s list : List ℕ) → LeftFor s list → list ≡ answers s
-unfolding left-by
-left-is s list l = l .is-left ∙ simp (l .accepted)
+  pub silo-fits : Fits (silo-of s)
+  silo-fits =
+      record {
+        range = in-range;
+        factor-most = product-range s a .factor-most;
+        eccentricity-most = omega (arith, a .values .inlet-most, a .values .outlet-most);
+        height-most = bottom-fits .0;
+        run-most = bottom-fits .1;
+        foot-reached = reached (V-of s) (omega arith);
+      }
+
+  -- the listed depths rise
+  depths-rise : (i n : ℕ) → i + n < depth-count s → depth s i ≤ depth s (i + n)
+  depths-rise i zero h =
+      let e : depth s (i + 0) ≡ depth s i = ap (depth s) (omega arith) in
+      omega (arith, e)
+  depths-rise i (suc n) h =
+      let e : depth s (i + suc n) ≡ depth s (suc (i + n)) = ap (depth s) (omega arith) in
+      omega (arith, depths-rise i n (omega arith), a .depths-rise (i + n) (omega arith), e)
+
+  depths-down : (i j : ℕ) → i ≤ j → j < depth-count s → depth s i ≤ depth s j
+  depths-down i j h g =
+      let e : i + (j - i) ≡ j = omega arith in
+      subst (λ (x : ℕ). depth s i ≤ depth s x) e (depths-rise i (j - i) (omega arith))
+
+  edges-down : (k m : ℕ) → k ≤ m → edge-of s k ≤ edge-of s m
+  unfolding edge-of
+  edges-down k m h = sum-under (strakes-of s) k m h
 
 two-records : (s : List ℕ) → Accepted s → place s 2 ≤ length s
 unfolding place payload-length
@@ -98,43 +111,67 @@ module _ (s s' : List ℕ) (a : Accepted s) (a' : Accepted s') (e : SameSectionA
   product-equal : product-of s ≡ product-of s'
   product-equal = same-product s s' (two-records s a) (two-records s' a') e section-length (a .layout .product-length)
 
-  filling-equal : (k : Kind) (j : ℕ) → j < depth-count s' → filling-number (answers s') j k ≡ filling k (section-of s) (product-of s) (depth s' j)
-  filling-equal k j h =
-      filling-at s' a' k j h ∙ sym (ap₂ (λ (c : Section) (p : Product). filling k c p (depth s' j)) section-equal product-equal)
+  pressure-same : (k : Kind) (x y : ℕ) → x ≡ y → filling k (section-of s) (product-of s) x ≡ filling k (section-of s') (product-of s') y
+  pressure-same k x y g = rw (section-equal, product-equal, g) refl
 
-  other-fits : (j : ℕ) → j < depth-count s' → InDepth (section-of s) (depth s' j)
-  unfolding silo-of
-  other-fits j h = rw section-equal (depth-fits s' a' j h)
+  load-same : (x y : ℕ) → x ≡ y → wall-load (section-of s) (product-of s) x ≡ wall-load (section-of s') (product-of s') y
+  load-same x y g = rw (section-equal, product-equal, g) refl
 
-  -- the order between two lists
-  pub lists-ordered : (k : Kind) (i j : ℕ) → i < depth-count s → j < depth-count s'
-      → Ordered (depth s i) (depth s' j) (filling-number (answers s) i k) (filling-number (answers s') j k)
-  unfolding silo-of
-  lists-ordered k i j h h' =
-      rw (filling-at s a k i h, filling-equal k j h')
-      (record {
-        rises = filling-rises k (section-of s) (product-of s) (depth s i) (depth s' j) (in-range s a) (other-fits j h');
-        falls = filling-rises k (section-of s) (product-of s) (depth s' j) (depth s i) (in-range s a) (depth-fits s a i h);
-        same = ap (filling k (section-of s) (product-of s));
-      })
+  pressure-more : (k : Kind) (x y : ℕ) → InDepth (section-of s') y → x ≤ y → filling k (section-of s) (product-of s) x ≤ filling k (section-of s') (product-of s') y
+  pressure-more k x y d g = rw (section-equal, product-equal) (filling-rises k (section-of s') (product-of s') x y (in-range s' a') d g)
+
+  load-more : (x y : ℕ) → InDepth (section-of s') y → x ≤ y → wall-load (section-of s) (product-of s) x ≤ wall-load (section-of s') (product-of s') y
+  load-more x y d g = rw (section-equal, product-equal) (wall-load-rises (section-of s') (product-of s') x y (in-range s' a') d g)
+
+  -- a load of filling is that of the other silo, at the same depth below the surface
+  number-same : (l : Load) → of-filling l ≡ true → (x y : ℕ) → load-depth (silo-of s) x ≡ load-depth (silo-of s') y
+      → number computed (silo-of s) l x ≡ number computed (silo-of s') l y
+  number-same phf o x y g = pressure-same horizontal _ _ g
+  number-same pwf o x y g = pressure-same wall-friction _ _ g
+  number-same pvf o x y g = pressure-same vertical _ _ g
+  number-same PW o x y g = load-same _ _ g
+  number-same z o x y g = absurd (false≢true o)
+  number-same phe o x y g = absurd (false≢true o)
+  number-same pwe o x y g = absurd (false≢true o)
+  number-same pp o x y g = absurd (false≢true o)
+
+  -- and no smaller at a greater one
+  number-more : (l : Load) → of-filling l ≡ true → (x y : ℕ) → Reached (silo-of s') y → load-depth (silo-of s) x ≤ load-depth (silo-of s') y
+      → number computed (silo-of s) l x ≤ number computed (silo-of s') l y
+  number-more phf o x y d g = pressure-more horizontal _ _ d g
+  number-more pwf o x y d g = pressure-more wall-friction _ _ d g
+  number-more pvf o x y d g = pressure-more vertical _ _ d g
+  number-more PW o x y d g = load-more _ _ d g
+  number-more z o x y d g = absurd (false≢true o)
+  number-more phe o x y d g = absurd (false≢true o)
+  number-more pwe o x y d g = absurd (false≢true o)
+  number-more pp o x y d g = absurd (false≢true o)
 
 -- demand 3
-pub claim : (s : List ℕ) → refusal-of s ≡ 0 → Claim s (answers s)
-claim s h =
+pub claim : (s list : List ℕ) → refusal-of s ≡ 0 → Filled computed s list → Claim computed s list
+claim s list h fill =
     let a : Accepted s = accepted s h in
-    let c : Section = silo-of s .section in
-    let p : Product = silo-of s .product in
+    let c : Silo = silo-of s in
+    let fits : Fits c = silo-fits s a in
     record {
-      due = length-answers s;
-      depths = λ i l. rw (depth-at s i l) (depth-holds c p (depth s i) (in-range s a) (depth-fits s a i l) (e-of (silo-of s)) (factor-fits s a) (centred s a));
-      bottom =
-          rw (bottom-at s)
-          (bottom-holds c p (silo-of s .bottom .height) (silo-of s .bottom .run) (V-of s) (in-range s a) (in-depth s a (V-of s) (omega arith)));
-      strakes = λ k l. rw (strake-at s k l) (strake-holds c p (edge-of s (suc k)) (in-range s a) (in-depth s a (edge-of s (suc k)) (edge-most s (suc k))) (factor-fits s a));
-      ordered = λ s' list' left e k i j l l'. rw (left-is s' list' left) (lists-ordered s s' a (left-accepted s' list' left) e k i j l l');
+      due = fill .due;
+      depths = λ l i g. subst (Holds c l (depth s i)) (sym (fill .at-depths l i g)) (holds c fits l (depth s i) (depth-reached s a i g));
+      bottom = bottom-holds c fits (bottom-in s list) (fill .at-bottom);
+      strakes =
+          λ k g. subst (Holds c phe (edge-of s (suc k))) (sym (fill .at-strakes k g)) (holds c fits phe (edge-of s (suc k)) (edge-reached s a (suc k)));
+      down =
+          λ l i j g n. rw (fill .at-depths l i (omega arith), fill .at-depths l j n)
+          (rises c fits l (depth s i) (depth s j) (depth-reached s a j n) (depths-down s a i j g n));
+      strakes-down =
+          λ k m g n. rw (fill .at-strakes k (omega arith), fill .at-strakes m n)
+          (rises c fits phe (edge-of s (suc k)) (edge-of s (suc m)) (edge-reached s a (suc m)) (edges-down s a (suc k) (suc m) (omega arith)));
+      ordered =
+          λ s' list' left e l o i j g n.
+          let a' : Accepted s' = accepted s' (left .accepted) in
+          rw (fill .at-depths l i g, left .filled .at-depths l j n)
+          (record {
+            rises = number-more s s' a a' e l o (depth s i) (depth s' j) (depth-reached s' a' j n);
+            falls = number-more s' s a' a (sym e) l o (depth s' j) (depth s i) (depth-reached s a i g);
+            same = number-same s s' a a' e l o (depth s i) (depth s' j);
+          });
     }
-
--- of every list that the call leaves
-pub claim-left : (s list : List ℕ) → LeftFor s list → Claim s list
-unfolding loads-refusal
-claim-left s list l = subst (Claim s) (sym (left-is s list l)) (claim s (orElse-0 _ _ (l .accepted) .0))

@@ -6,36 +6,35 @@ use mathlib.Core.List.{List}
 use native.Mathlib.Omega.{arith}
 use lib.ListN.{getD}
 use lib.Seq.{sets}
-use Rattle.janssen.specs.declared.Section.{Section}
-use Rattle.janssen.specs.declared.Product.{Product}
-use Rattle.janssen.specs.Range.{InDepth}
 use Rattle.records.specs.Format.{u32, numbers, payload}
 use Rattle.records.proofs.Numbers.{numbers-next, numbers-end, numbers-at}
-use Rattle.description.specs.Silo.{silo-of, depths-of, depth-count, V-of}
+use Rattle.description.specs.Silo.{depths-of, depth-count, V-of}
 use Rattle.sheet.specs.Refusal.{refusal-of}
 use Rattle.sheet.proofs.Acceptance.{accepted}
 use Rattle.rows.specs.declared.Basis.{Basis}
-use Rattle.rows.specs.Basis.{Sound}
-use Rattle.rows.specs.Rows.{depth-row}
-use Rattle.loads.specs.Answers.{e-of, basis-of, depth-rows}
+use Rattle.rows.specs.Load.{Silo}
+use Rattle.rows.specs.program.Basis.{silo-in, Reached, Sound}
+use Rattle.rows.specs.program.Rows.{depth-row}
+use Rattle.loads.specs.Answers.{silo-of}
+use Rattle.loads.specs.program.Fill.{basis-of, depth-rows}
 use Rattle.loads.proofs.Places.{length-depth-row}
 use Rattle.loads.proofs.Stores.{sets-append}
-use Rattle.loads.proofs.Demand.{in-range, factor-fits, centred, in-depth, depth-fits}
+use Rattle.loads.proofs.Demand.{silo-fits, reached, depth-reached}
 
-module _ (c : Section) (p : Product) (e : ℕ) (read : ℕ → ℕ) (n : ℕ) (list : List ℕ) (at i : ℕ) where
+module _ (c : Silo) (read : ℕ → ℕ) (n : ℕ) (list : List ℕ) (at i : ℕ) where
   pub rows-next : i < n
-      → sets list (8 * i) (depth-rows c p e (numbers read 4 at (n - i)))
-      ≡ sets (sets list (8 * i) (depth-row c p e (read at))) (8 * (i + 1)) (depth-rows c p e (numbers read 4 (at + 4) (n - (i + 1))))
+      → sets list (8 * i) (depth-rows c (numbers read 4 at (n - i)))
+      ≡ sets (sets list (8 * i) (depth-row c (read at))) (8 * (i + 1)) (depth-rows c (numbers read 4 (at + 4) (n - (i + 1))))
   unfolding depth-rows
   rows-next h =
-      ap (λ (l : List ℕ). sets list (8 * i) (depth-rows c p e l)) (numbers-next read 4 at n i h)
-      ∙ sets-append list (8 * i) (depth-row c p e (read at)) _
-      ∙ ap (λ (k : ℕ). sets (sets list (8 * i) (depth-row c p e (read at))) k (depth-rows c p e (numbers read 4 (at + 4) (n - (i + 1)))))
-      (omega (arith, length-depth-row c p e (read at)))
+      ap (λ (l : List ℕ). sets list (8 * i) (depth-rows c l)) (numbers-next read 4 at n i h)
+      ∙ sets-append list (8 * i) (depth-row c (read at)) _
+      ∙ ap (λ (k : ℕ). sets (sets list (8 * i) (depth-row c (read at))) k (depth-rows c (numbers read 4 (at + 4) (n - (i + 1)))))
+      (omega (arith, length-depth-row c (read at)))
 
-  pub rows-done : n ≤ i → sets list (8 * i) (depth-rows c p e (numbers read 4 at (n - i))) ≡ list
+  pub rows-done : n ≤ i → sets list (8 * i) (depth-rows c (numbers read 4 at (n - i))) ≡ list
   unfolding depth-rows
-  rows-done h = ap (λ (l : List ℕ). sets list (8 * i) (depth-rows c p e l)) (numbers-end read 4 at n i h)
+  rows-done h = ap (λ (l : List ℕ). sets list (8 * i) (depth-rows c l)) (numbers-end read 4 at n i h)
 
 -- the depth i is read at its place
 pub depth-read : (s : List ℕ) (i at : ℕ) → i < depth-count s → at ≡ payload s 5 + 4 * i → u32 s at ≡ getD (depths-of s) i 0
@@ -47,20 +46,18 @@ module _ (s : List ℕ) (b : Basis) (h : refusal-of s ≡ 0) (e : b ≡ basis-of
   basis-sound =
       subst (λ (x : Basis). Sound x) (sym e)
       (record {
-        range = in-range s (accepted s h);
+        fits = silo-fits s (accepted s h);
         prepared-right = refl;
         shorter-right = refl;
-        factor-most = factor-fits s (accepted s h);
-        eccentricity-most = centred s (accepted s h);
       })
 
-  pub basis-depth : (z : ℕ) → z ≤ V-of s → InDepth (b .section) z
-  basis-depth z l = subst (λ (x : Basis). InDepth (x .section) z) (sym e) (in-depth s (accepted s h) z l)
+  pub basis-depth : (z : ℕ) → z ≤ V-of s → Reached (silo-in b) z
+  basis-depth z l = subst (λ (x : Basis). Reached (silo-in x) z) (sym e) (reached s (accepted s h) z l)
 
-  pub basis-listed : (i z : ℕ) → i < depth-count s → z ≡ getD (depths-of s) i 0 → InDepth (b .section) z
-  basis-listed i z l d = rw d (subst (λ (x : Basis). InDepth (x .section) (getD (depths-of s) i 0)) (sym e) (depth-fits s (accepted s h) i l))
+  pub basis-listed : (i z : ℕ) → i < depth-count s → z ≡ getD (depths-of s) i 0 → Reached (silo-in b) z
+  basis-listed i z l d = rw d (subst (λ (x : Basis). Reached (silo-in x) (getD (depths-of s) i 0)) (sym e) (depth-reached s (accepted s h) i l))
 
   -- the row that the call gives is the row of the list
-  pub row-is : (row : List ℕ) (z : ℕ) → row ≡ depth-row (b .section) (b .product) (b .eccentricity) z
-      → row ≡ depth-row (silo-of s .section) (silo-of s .product) (e-of (silo-of s)) z
-  row-is row z r = r ∙ ap (λ (x : Basis). depth-row (x .section) (x .product) (x .eccentricity) z) e
+  pub row-is : (row : List ℕ) (z : ℕ) → row ≡ depth-row (silo-in b) z
+      → row ≡ depth-row (silo-of s) z
+  row-is row z r = r ∙ ap (λ (x : Basis). depth-row (silo-in x) z) e

@@ -8,39 +8,45 @@ use native.Mathlib.Numerals.{add-one}
 use native.Mathlib.Omega.{arith}
 use lib.ListN.{length, getD, take, drop, set, drop-of-length-le}
 use lib.Seq.{sets, drop-cons, getD-take, length-take-le}
-use Rattle.janssen.specs.declared.Section.{Section}
-use Rattle.janssen.specs.declared.Product.{Product}
-use Rattle.janssen.specs.Range.{InDepth}
 use Rattle.description.specs.declared.Wall.{Wall}
 use Rattle.description.specs.declared.WallState.{WallState}
-use Rattle.description.specs.Silo.{sum, wall-lowered}
+use Rattle.description.specs.Silo.{sum}
+use Rattle.description.specs.program.Wall.{wall-lowered}
 use Rattle.description.proofs.Sums.{sum-next, sum-under}
-use Rattle.rows.specs.Rows.{strake}
-use Rattle.loads.specs.Answers.{strake-numbers}
+use Rattle.janssen.specs.program.Pressure.{computed}
+use Rattle.rows.specs.Load.{Silo, number}
+use Rattle.records.specs.Place.Load.{phe}
+use Rattle.rows.specs.program.Basis.{Reached}
+use Rattle.rows.proofs.RowLaws.{load-depth-rises}
+use Rattle.loads.specs.program.Fill.{strake-numbers}
 
-pub above-foot : {c : Section} {z foot : ℕ} → InDepth c foot → z ≤ foot → InDepth c z
-above-foot d h = record { slender = omega (arith, d .slender); wall = omega (arith, d .wall) }
+pub above-foot : (c : Silo) {depth foot : ℕ} → Reached c foot → depth ≤ foot → Reached c depth
+above-foot c {depth} {foot} d h =
+    record {
+      slender = omega (arith, d .slender, load-depth-rises c depth foot h);
+      wall = omega (arith, d .wall, load-depth-rises c depth foot h);
+    }
 
 -- the first `count` heights, below the strake k
-module _ (c : Section) (p : Product) (heights : List ℕ) (count k : ℕ) (hk : k < count) (hc : count ≤ length heights) where
+module _ (c : Silo) (heights : List ℕ) (count k : ℕ) (hk : k < count) (hc : count ≤ length heights) where
   below : drop k (take count heights) ≡ getD heights k 0 ∷ drop (suc k) (take count heights)
   below =
       drop-cons (take count heights) k 0 (omega (arith, length-take-le count heights hc))
       ∙ ap (λ (x : ℕ). x ∷ drop (suc k) (take count heights)) (getD-take count heights k 0 hk)
 
   pub strakes-next : (list : List ℕ) (at edge : ℕ)
-      → sets list (at + k) (strake-numbers c p edge (drop k (take count heights)))
-      ≡ sets (set list (at + k) (strake c p (edge + getD heights k 0))) (at + (k + 1))
-      (strake-numbers c p (edge + getD heights k 0) (drop (k + 1) (take count heights)))
+      → sets list (at + k) (strake-numbers c edge (drop k (take count heights)))
+      ≡ sets (set list (at + k) (number computed c phe (edge + getD heights k 0))) (at + (k + 1))
+      (strake-numbers c (edge + getD heights k 0) (drop (k + 1) (take count heights)))
   unfolding strake-numbers
   strakes-next list at edge =
       let e : at + (k + 1) ≡ suc (at + k) = omega arith in
       rw (e, add-one, below)
 
-pub strakes-done : (c : Section) (p : Product) (heights : List ℕ) (count k : ℕ) → count ≤ k → count ≤ length heights
-    → (list : List ℕ) (at edge : ℕ) → sets list (at + k) (strake-numbers c p edge (drop k (take count heights))) ≡ list
+pub strakes-done : (c : Silo) (heights : List ℕ) (count k : ℕ) → count ≤ k → count ≤ length heights
+    → (list : List ℕ) (at edge : ℕ) → sets list (at + k) (strake-numbers c edge (drop k (take count heights))) ≡ list
 unfolding strake-numbers
-strakes-done c p heights count k h hc list at edge =
+strakes-done c heights count k h hc list at edge =
     rw (drop-of-length-le (take count heights) {i = k} (omega (arith, length-take-le count heights hc)))
 
 -- one step down the wall

@@ -1,122 +1,168 @@
 -- Where each number stands in the answer list: eight a depth, ten for the bottom, one a strake.
 -- Assumes nothing.
-use Prim.Native.Nat.{ℕ, zero, suc, _+_, _*_, _<_}
-use mathlib.Core.Path.{_≡_, refl, ap, sym, _∙_}
+use Prim.Native.Nat.{ℕ, zero, suc, _+_, _-_, _*_, _/_, _%_, _≤_, _<_}
+use mathlib.Core.Path.{_≡_, refl, ap, sym, _∙_, subst}
 use mathlib.Core.List.{List, [], _∷_, _++_, append-assoc}
 use native.Mathlib.Nat.{not-suc-le-zero, le-of-suc-le-suc, zero-add}
+use native.Mathlib.Decide.{decLt}
 use native.Mathlib.Omega.{arith}
-use lib.ListN.{length, getD, take, drop, length-append}
-use lib.Seq.{getD-append-add, getD-take, getD-drop, take-at, drop-append-add}
+use lib.ListN.{length, getD, take, length-append, List·getD-append}
+use lib.Seq.{getD-append-add, ext-getD}
 use Rattle.janssen.specs.declared.Section.{Section}
 use Rattle.janssen.specs.declared.Product.{Product}
-use Rattle.description.specs.declared.Silo.{Silo}
-use Rattle.description.specs.Silo.{silo-of, strakes-of, depths-of, strake-count, depth-count, sum, edge-of, V-of}
+use Rattle.janssen.specs.Numbers.{FillingNumbers}
+use Rattle.janssen.specs.program.Pressure.{computed}
+use Rattle.description.specs.Silo.{strakes-of, depths-of, strake-count, depth-count, sum, edge-of}
 use Rattle.description.proofs.Walls.{strakes-length}
 use Rattle.sheet.specs.Refusal.{length-due}
 use Rattle.sheet.proofs.Acceptance.{depths-length}
-use Rattle.rows.specs.Rows.{depth-row, ten, bottom-row, strake}
-use Rattle.loads.specs.Answers.{e-of, depth-rows, strake-numbers, depths-part, bottom-part, strakes-part, answers}
-use Rattle.loads.specs.Claim.{part}
+use Rattle.rows.specs.program.Rows.{depth-row}
+use Rattle.records.specs.Place.{Load}
+use Rattle.rows.specs.Load.{Silo, number, ten, bottom-numbers}
+use Rattle.records.specs.Place.Load.{z, phf, pwf, pvf, PW, phe, pwe, pp}
+use Rattle.records.specs.Place.{rank}
+use Rattle.loads.specs.Answers.{silo-of, depth, load-in, bottom-in, strake-in, Filled}
+use Rattle.loads.specs.program.Fill.{depth-rows, strake-numbers, depths-part, bottom-part, strakes-part, answers}
 
-pub length-depth-row : (c : Section) (p : Product) (e z : ℕ) → length (depth-row c p e z) ≡ 8
+pub length-depth-row : (c : Silo) (depth : ℕ) → length (depth-row c depth) ≡ 8
 unfolding depth-row
-length-depth-row c p e z = refl
+length-depth-row c depth = refl
 
-pub length-depth-rows : (c : Section) (p : Product) (e : ℕ) (l : List ℕ) → length (depth-rows c p e l) ≡ 8 * length l
+pub length-depth-rows : (c : Silo) (l : List ℕ) → length (depth-rows c l) ≡ 8 * length l
 unfolding depth-rows
-length-depth-rows c p e [] = refl
-length-depth-rows c p e (z ∷ l) =
-    rw length-append (omega (arith, length-depth-row c p e z, length-depth-rows c p e l))
+length-depth-rows c [] = refl
+length-depth-rows c (depth ∷ l) =
+    rw length-append (omega (arith, length-depth-row c depth, length-depth-rows c l))
 
 length-ten : (c : Section) (p : Product) (H r x : ℕ) → length (ten c p H r x) ≡ 10
 unfolding ten
 length-ten c p H zero x = refl
 length-ten c p H (suc r) x = refl
 
-pub length-bottom-row : (c : Section) (p : Product) (H r foot : ℕ) → length (bottom-row c p H r foot) ≡ 10
-unfolding bottom-row
-length-bottom-row c p H r foot = length-ten c p H r _
-
-pub length-strake-numbers : (c : Section) (p : Product) (from : ℕ) (l : List ℕ) → length (strake-numbers c p from l) ≡ length l
+pub length-strake-numbers : (c : Silo) (from : ℕ) (l : List ℕ) → length (strake-numbers c from l) ≡ length l
 unfolding strake-numbers
-length-strake-numbers c p from [] = refl
-length-strake-numbers c p from (height ∷ l) = ap suc (length-strake-numbers c p (from + height) l)
+length-strake-numbers c from [] = refl
+length-strake-numbers c from (height ∷ l) = ap suc (length-strake-numbers c (from + height) l)
 
--- a part of a list that begins with others
-part-first : (xs ys : List ℕ) (n : ℕ) → length xs ≡ n → part (xs ++ ys) 0 n ≡ xs
-part-first xs ys n e = take-at xs ys n e
-
-part-later : (xs ys : List ℕ) (at n m : ℕ) → m ≡ length xs + at → part (xs ++ ys) m n ≡ part ys at n
-part-later xs ys at n m e = rw (e, drop-append-add)
-
--- the row of the depth i
-depth-rows-part : (c : Section) (p : Product) (e : ℕ) (l rest : List ℕ) (i : ℕ) → i < length l
-    → part (depth-rows c p e l ++ rest) (8 * i) 8 ≡ depth-row c p e (getD l i 0)
+-- number n of the row of the depth i
+depth-rows-at : (c : Silo) (l rest : List ℕ) (i n : ℕ) → i < length l → n < 8
+    → getD (depth-rows c l ++ rest) (8 * i + n) 0 ≡ getD (depth-row c (getD l i 0)) n 0
 unfolding depth-rows
-depth-rows-part c p e [] rest i h = absurd (not-suc-le-zero h)
-depth-rows-part c p e (z ∷ l) rest zero h =
-    rw append-assoc (part-first (depth-row c p e z) (depth-rows c p e l ++ rest) 8 (length-depth-row c p e z))
-depth-rows-part c p e (z ∷ l) rest (suc i) h =
-    rw append-assoc
-    (part-later (depth-row c p e z) (depth-rows c p e l ++ rest) (8 * i) 8 (8 * suc i) (omega (arith, length-depth-row c p e z))
-    ∙ depth-rows-part c p e l rest i (le-of-suc-le-suc h))
+depth-rows-at c [] rest i n h g = absurd (not-suc-le-zero h)
+depth-rows-at c (depth ∷ l) rest zero n h g =
+    let at : 8 * 0 + n ≡ n = omega arith in
+    rw (append-assoc, at)
+    (List·getD-append (depth-row c depth) (depth-rows c l ++ rest) 0 n (omega (arith, length-depth-row c depth)))
+depth-rows-at c (depth ∷ l) rest (suc i) n h g =
+    let at : 8 * suc i + n ≡ length (depth-row c depth) + (8 * i + n) = omega (arith, length-depth-row c depth) in
+    rw (append-assoc, at)
+    (getD-append-add (depth-row c depth) (depth-rows c l ++ rest) (8 * i + n) 0
+    ∙ depth-rows-at c l rest i n (le-of-suc-le-suc h) g)
+
+strake-numbers-at : (c : Silo) (from : ℕ) (l : List ℕ) (k : ℕ) → k < length l
+    → getD (strake-numbers c from l) k 0 ≡ number computed c phe (from + sum (take (suc k) l))
+unfolding strake-numbers sum
+strake-numbers-at c from [] k h = absurd (not-suc-le-zero h)
+strake-numbers-at c from (height ∷ l) zero h = ap (number computed c phe) (omega arith)
+strake-numbers-at c from (height ∷ l) (suc k) h =
+    strake-numbers-at c (from + height) l k (le-of-suc-le-suc h) ∙ ap (number computed c phe) (omega arith)
 
 -- the list's three parts
 module _ (s : List ℕ) where
-  abbrev c : Section
-  c = silo-of s .section
-
-  abbrev p : Product
-  p = silo-of s .product
+  abbrev c : Silo
+  c = silo-of s
 
   pub length-depths-part : length (depths-part s) ≡ 8 * depth-count s
-  length-depths-part = length-depth-rows c p (e-of (silo-of s)) (depths-of s) ∙ ap (λ (n : ℕ). 8 * n) (depths-length s)
+  length-depths-part = length-depth-rows c (depths-of s) ∙ ap (λ (n : ℕ). 8 * n) (depths-length s)
 
   pub length-bottom-part : length (bottom-part s) ≡ 10
-  length-bottom-part = length-bottom-row c p (silo-of s .bottom .height) (silo-of s .bottom .run) (V-of s)
+  length-bottom-part = length-ten (c .section) (c .product) (c .height) (c .run) _
 
   pub length-strakes-part : length (strakes-part s) ≡ strake-count s
-  length-strakes-part = length-strake-numbers c p 0 (strakes-of s) ∙ strakes-length s
+  length-strakes-part = length-strake-numbers c 0 (strakes-of s) ∙ strakes-length s
 
   pub length-answers : length (answers s) ≡ length-due s
   unfolding answers length-due
   length-answers = simp length-append (omega (arith, length-depths-part, length-bottom-part, length-strakes-part))
 
-  pub depth-at : (i : ℕ) → i < depth-count s → part (answers s) (8 * i) 8 ≡ depth-row c p (e-of (silo-of s)) (getD (depths-of s) i 0)
+  row-at : (i n : ℕ) → i < depth-count s → n < 8
+      → getD (answers s) (8 * i + n) 0 ≡ getD (depth-row c (depth s i)) n 0
   unfolding answers
-  depth-at i h = depth-rows-part c p (e-of (silo-of s)) (depths-of s) _ i (omega (arith, depths-length s))
+  row-at i n h g = depth-rows-at c (depths-of s) _ i n (omega (arith, depths-length s)) g
 
-  pub bottom-at : part (answers s) (8 * depth-count s) 10 ≡ bottom-part s
+  -- a load of the depth i
+  load-at : (l : Load) (i : ℕ) → i < depth-count s → load-in s (answers s) l i ≡ number computed (silo-of s) l (depth s i)
+  unfolding depth-row
+  load-at z i h = row-at i 0 h (omega arith)
+  load-at phf i h = row-at i 1 h (omega arith)
+  load-at pwf i h = row-at i 2 h (omega arith)
+  load-at pvf i h = row-at i 3 h (omega arith)
+  load-at PW i h = row-at i 4 h (omega arith)
+  load-at phe i h = row-at i 5 h (omega arith)
+  load-at pwe i h = row-at i 6 h (omega arith)
+  load-at pp i h = row-at i 7 h (omega arith)
+
+  -- number k of the bottom
+  bottom-at : (k : ℕ) → k < 10 → bottom-in s (answers s) k ≡ getD (bottom-numbers computed (silo-of s)) k 0
   unfolding answers
-  bottom-at =
-      part-later (depths-part s) _ 0 10 (8 * depth-count s) (omega (arith, length-depths-part))
-      ∙ part-first (bottom-part s) _ 10 length-bottom-part
+  bottom-at k h =
+      let at : 8 * depth-count s + k ≡ length (depths-part s) + k = omega (arith, length-depths-part) in
+      rw at
+      (getD-append-add (depths-part s) _ k 0
+      ∙ List·getD-append (bottom-part s) _ 0 k (omega (arith, length-bottom-part)))
 
-  -- number n of the depth i
-  pub depth-number-at : (i n : ℕ) → i < depth-count s → n < 8
-      → getD (answers s) (8 * i + n) 0 ≡ getD (depth-row c p (e-of (silo-of s)) (getD (depths-of s) i 0)) n 0
-  depth-number-at i n h l =
-      sym (getD-take 8 (drop (8 * i) (answers s)) n 0 l ∙ getD-drop (8 * i) (answers s) n 0) ∙ ap (λ (row : List ℕ). getD row n 0) (depth-at i h)
+  -- the strake k
+  strake-at : (k : ℕ) → k < strake-count s → strake-in s (answers s) k ≡ number computed (silo-of s) phe (edge-of s (suc k))
+  unfolding answers edge-of
+  strake-at k h =
+      let at : 8 * depth-count s + 10 + k ≡ length (depths-part s) + (length (bottom-part s) + k) =
+      omega (arith, length-depths-part, length-bottom-part) in
+      rw at
+      (getD-append-add (depths-part s) _ (length (bottom-part s) + k) 0
+      ∙ getD-append-add (bottom-part s) _ k 0
+      ∙ strake-numbers-at c 0 (strakes-of s) k (omega (arith, strakes-length s))
+      ∙ ap (number computed c phe) (zero-add (sum (take (suc k) (strakes-of s)))))
 
-strake-numbers-at : (c : Section) (p : Product) (from : ℕ) (l : List ℕ) (k : ℕ) → k < length l
-    → getD (strake-numbers c p from l) k 0 ≡ strake c p (from + sum (take (suc k) l))
-unfolding strake-numbers sum
-strake-numbers-at c p from [] k h = absurd (not-suc-le-zero h)
-strake-numbers-at c p from (height ∷ l) zero h = ap (strake c p) (omega arith)
-strake-numbers-at c p from (height ∷ l) (suc k) h =
-    strake-numbers-at c p (from + height) l k (le-of-suc-le-suc h) ∙ ap (strake c p) (omega arith)
+  -- the list that the program fills has each number in its place
+  pub answers-filled : Filled computed s (answers s)
+  answers-filled = record { due = length-answers; at-depths = load-at; at-bottom = bottom-at; at-strakes = strake-at }
 
--- the strake k
-pub strake-at : (s : List ℕ) (k : ℕ) → k < strake-count s
-    → getD (answers s) (8 * depth-count s + 10 + k) 0 ≡ strake (silo-of s .section) (silo-of s .product) (edge-of s (suc k))
-unfolding answers edge-of
-strake-at s k h =
-    let c = silo-of s .section in
-    let p = silo-of s .product in
-    let e : 8 * depth-count s + 10 + k ≡ length (depths-part s) + (length (bottom-part s) + k) =
-    omega (arith, length-depths-part s, length-bottom-part s) in
-    rw e
-    (getD-append-add (depths-part s) _ (length (bottom-part s) + k) 0
-    ∙ getD-append-add (bottom-part s) _ k 0
-    ∙ strake-numbers-at c p 0 (strakes-of s) k (omega (arith, strakes-length s))
-    ∙ ap (strake c p) (zero-add (sum (take (suc k) (strakes-of s)))))
+-- the load that stands at n among a depth's eight
+load-ranked : (n : ℕ) → n < 8 → (l : Load) × (rank l ≡ n)
+load-ranked zero h = (z, refl)
+load-ranked (suc zero) h = (phf, refl)
+load-ranked (suc (suc zero)) h = (pwf, refl)
+load-ranked (suc (suc (suc zero))) h = (pvf, refl)
+load-ranked (suc (suc (suc (suc zero)))) h = (PW, refl)
+load-ranked (suc (suc (suc (suc (suc zero))))) h = (phe, refl)
+load-ranked (suc (suc (suc (suc (suc (suc zero)))))) h = (pwe, refl)
+load-ranked (suc (suc (suc (suc (suc (suc (suc zero))))))) h = (pp, refl)
+load-ranked (suc (suc (suc (suc (suc (suc (suc (suc n)))))))) h = absurd (omega arith)
+
+-- every place is one of a load, of the bottom or of a strake: `Filled` leaves no number of the list open
+module _ (f : FillingNumbers) (s l l' : List ℕ) (a : Filled f s l) (b : Filled f s l') where
+  at-load : (i : ℕ) → i < 8 * depth-count s → (x : Load) × (rank x ≡ i % 8) → getD l i 0 ≡ getD l' i 0
+  at-load i h (x, e) =
+      let at : 8 * (i / 8) + rank x ≡ i = omega (arith, e) in
+      subst (λ (n : ℕ). getD l n 0 ≡ getD l' n 0) at
+      (a .at-depths x (i / 8) (omega arith) ∙ sym (b .at-depths x (i / 8) (omega arith)))
+
+  at-bottom-or-strake : (i : ℕ) → 8 * depth-count s ≤ i → i < 8 * depth-count s + 10 + strake-count s → Dec (i < 8 * depth-count s + 10)
+      → getD l i 0 ≡ getD l' i 0
+  at-bottom-or-strake i h g (yes u) =
+      let k = i - 8 * depth-count s in
+      let at : 8 * depth-count s + k ≡ i = omega arith in
+      subst (λ (n : ℕ). getD l n 0 ≡ getD l' n 0) at (a .at-bottom k (omega arith) ∙ sym (b .at-bottom k (omega arith)))
+  at-bottom-or-strake i h g (no u) =
+      let k = i - (8 * depth-count s + 10) in
+      let at : 8 * depth-count s + 10 + k ≡ i = omega arith in
+      subst (λ (n : ℕ). getD l n 0 ≡ getD l' n 0) at (a .at-strakes k (omega arith) ∙ sym (b .at-strakes k (omega arith)))
+
+  at-any : (i : ℕ) → i < 8 * depth-count s + 10 + strake-count s → Dec (i < 8 * depth-count s) → getD l i 0 ≡ getD l' i 0
+  at-any i h (yes u) = at-load i u (load-ranked (i % 8) (omega arith))
+  at-any i h (no u) = at-bottom-or-strake i (omega arith) h (decLt i (8 * depth-count s + 10))
+
+  pub filled-once : l ≡ l'
+  unfolding length-due
+  filled-once =
+      ext-getD 0 l l' (a .due ∙ sym (b .due)) (λ i h. at-any i (omega (arith, a .due)) (decLt i (8 * depth-count s)))

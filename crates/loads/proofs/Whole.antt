@@ -4,21 +4,22 @@
 use Prim.Native.Nat.{ℕ, _+_, _-_, _*_, _≤_, max}
 use mathlib.Core.Path.{_≡_, refl, ap, sym, _∙_, subst}
 use mathlib.Core.List.{List, _++_}
-use mathlib.Core.Logic.{⊎-elim}
 use native.Mathlib.Omega.{arith}
 use lib.ListN.{length, take, length-append, length-replicate, replicate}
 use lib.Seq.{sets, take-at}
-use Rattle.janssen.specs.Range.{InRange, InDepth}
+use Rattle.janssen.specs.program.Range.{InRange}
+use Rattle.janssen.specs.program.Pressure.{computed}
 use Rattle.description.specs.declared.Silo.{Silo}
-use Rattle.description.specs.Silo.{silo-of, wall-of, strakes-of, strake-count, depth-count, sum, V-of}
+use Rattle.description.specs.Silo.{section-of, product-of, strakes-of, strake-count, depth-count, sum, V-of}
+use Rattle.description.specs.program.Wall.{silo-read, wall-of}
 use Rattle.description.proofs.Walls.{strakes-length}
 use Rattle.sheet.specs.Refusal.{refusal-of, length-due}
 use Rattle.sheet.proofs.Acceptance.{accepted}
-use Rattle.sheet.proofs.Described.{d-c-most}
 use Rattle.rows.specs.declared.Basis.{Basis}
-use Rattle.rows.specs.Basis.{basis-for}
-use Rattle.rows.specs.Rows.{bottom-row}
-use Rattle.loads.specs.Answers.{e-of, basis-of, strake-numbers, depths-part, bottom-part, strakes-part, answers}
+use Rattle.rows.specs.Load.{bottom-numbers}
+use Rattle.rows.specs.program.Basis.{basis-for, silo-from, silo-in, Reached}
+use Rattle.loads.specs.Answers.{silo-of}
+use Rattle.loads.specs.program.Fill.{basis-of, strake-numbers, depths-part, bottom-part, strakes-part, answers}
 use Rattle.loads.proofs.Places.{length-depths-part, length-bottom-part, length-answers}
 use Rattle.loads.proofs.Stores.{sets-append, sets-whole}
 use Rattle.loads.proofs.Demand.{in-range}
@@ -47,27 +48,23 @@ module _ (s : List ℕ) where
     pub strakes-few : strake-count s ≤ 24
     strakes-few = accepted s h .layout .strakes-few
 
-    module _ (c : Silo) (e : c ≡ silo-of s) where
+    module _ (c : Silo) (e : c ≡ silo-read s) where
       pub silo-range : InRange (c .section) (c .product)
+      unfolding silo-read
       silo-range = subst (λ (x : Silo). InRange (x .section) (x .product)) (sym e) (in-range s (accepted s h))
 
-      pub basis-is : (b : Basis) → b ≡ basis-for (c .section) (c .product) (max (c .eccentricities .inlet) (c .eccentricities .outlet)) → b ≡ basis-of s
-      basis-is b f = f ∙ ap (λ (x : Silo). basis-for (x .section) (x .product) (e-of x)) e
-
-      -- H and r are at most 25,000
-      bottom-of-sheet : (silo-of s .bottom .height ≤ 25000) × (silo-of s .bottom .run ≤ 25000)
-      unfolding silo-of
-      bottom-of-sheet =
-          ⊎-elim (λ z. (omega (arith, z .0), omega (arith, z .1))) (λ x. (x .height-most, omega (arith, x .run-narrow, d-c-most s (accepted s h))))
-          (accepted s h .values .bottom-shape)
-
-      pub bottom-fits : (c .bottom .height ≤ 25000) × (c .bottom .run ≤ 25000)
-      bottom-fits = subst (λ (x : Silo). (x .bottom .height ≤ 25000) × (x .bottom .run ≤ 25000)) (sym e) bottom-of-sheet
+      pub basis-is : (b : Basis) (foot : ℕ) → foot ≡ V-of s
+          → b ≡ basis-for (silo-from (c .section) (c .product) (max (c .eccentricities .inlet) (c .eccentricities .outlet)) (c .bottom .height) (c .bottom .run) foot)
+          → b ≡ basis-of s
+      unfolding silo-read
+      basis-is b foot g f =
+          f ∙ ap (λ (x : Silo). basis-for (silo-from (x .section) (x .product) (max (x .eccentricities .inlet) (x .eccentricities .outlet)) (x .bottom .height) (x .bottom .run) foot)) e
+          ∙ ap (λ (v : ℕ). basis-for (silo-from (section-of s) (product-of s) (silo-of s .eccentricity) (silo-of s .height) (silo-of s .run) v)) g
 
       -- the heights are the strakes, and zeros up to 24
-      heights-of-sheet : (silo-of s .wall .count ≤ 24) × (length (silo-of s .wall .heights) ≡ 24)
-          × (take (silo-of s .wall .count) (silo-of s .wall .heights) ≡ strakes-of s)
-      unfolding silo-of wall-of
+      heights-of-sheet : (silo-read s .wall .count ≤ 24) × (length (silo-read s .wall .heights) ≡ 24)
+          × (take (silo-read s .wall .count) (silo-read s .wall .heights) ≡ strakes-of s)
+      unfolding silo-read wall-of
       heights-of-sheet = (
         strakes-few,
         simp (length-append, length-replicate) (omega (arith, strakes-length s, strakes-few)),
@@ -79,26 +76,22 @@ module _ (s : List ℕ) where
           subst (λ (x : Silo). (x .wall .count ≤ 24) × (length (x .wall .heights) ≡ 24) × (take (x .wall .count) (x .wall .heights) ≡ strakes-of s))
           (sym e) heights-of-sheet
 
-      count-of-sheet : silo-of s .wall .count ≡ strake-count s
-      unfolding silo-of wall-of
+      count-of-sheet : silo-read s .wall .count ≡ strake-count s
+      unfolding silo-read wall-of
       count-of-sheet = refl
 
       pub wall-count : c .wall .count ≡ strake-count s
       wall-count = ap (λ (x : Silo). x .wall .count) e ∙ count-of-sheet
 
       module _ (b : Basis) (f : b ≡ basis-of s) where
-        pub wall-depth : InDepth (b .section) (sum (take (c .wall .count) (c .wall .heights)))
+        pub wall-depth : Reached (silo-in b) (sum (take (c .wall .count) (c .wall .heights)))
         unfolding V-of
         wall-depth = rw (wall-fits .2) (basis-depth s b h f (V-of s) (omega arith))
 
-        pub foot-depth : (z : ℕ) → z ≡ V-of s → InDepth (b .section) z
-        foot-depth z g = basis-depth s b h f z (omega arith)
-
-        pub bottom-is : (row : List ℕ) (z : ℕ) → z ≡ V-of s → row ≡ bottom-row (b .section) (b .product) (c .bottom .height) (c .bottom .run) z
-            → row ≡ bottom-part s
-        bottom-is row z g r = r ∙ rw (g, f, e) refl
+        pub bottom-is : bottom-numbers computed (silo-in b) ≡ bottom-part s
+        bottom-is = ap (λ (x : Basis). bottom-numbers computed (silo-in x)) f
 
         pub strakes-are : (list list' : List ℕ) (at : ℕ)
-            → list' ≡ sets list at (strake-numbers (b .section) (b .product) 0 (take (c .wall .count) (c .wall .heights)))
+            → list' ≡ sets list at (strake-numbers (silo-in b) 0 (take (c .wall .count) (c .wall .heights)))
             → list' ≡ sets list at (strakes-part s)
         strakes-are list list' at g = g ∙ rw (wall-fits .2, f) refl

@@ -1,60 +1,52 @@
--- The answer list as a function of the sheet, and what the load call answers and leaves. Document 01, "Answer list" and "Who can be
--- refused". Lengths and depths in mm, pressures in Pa, P_w in N/m.
-use Prim.Native.Nat.{ℕ, _+_, max}
-use mathlib.Core.Bool.{Bool, true, false}
-use mathlib.Core.List.{List, [], _∷_, _++_}
+-- The answer list: each of its numbers, and what the load call answers. Document 01, "Sheet", "Answer list" and "Who can be refused".
+use Prim.Native.Nat.{ℕ, suc, _<_, max}
+use mathlib.Core.Path.{_≡_}
+use mathlib.Core.List.{List}
 use lib.Dec.{eqb}
-use lib.ListN.{length}
+use lib.ListN.{length, getD}
 use Rattle.records.specs.Rules.{must, orElse}
-use Rattle.janssen.specs.declared.Section.{Section}
-use Rattle.janssen.specs.declared.Product.{Product}
-use Rattle.description.specs.declared.Silo.{Silo}
-use Rattle.description.specs.Silo.{silo-of, strakes-of, depths-of, V-of}
+use Rattle.janssen.specs.Numbers.{FillingNumbers}
+use Rattle.description.specs.Silo.{section-of, product-of, eccentricities-of, bottom-of, depths-of, depth-count, strake-count, edge-of, V-of}
 use Rattle.sheet.specs.Refusal.{refusal-of, length-due}
-use Rattle.rows.specs.declared.Basis.{Basis}
-use Rattle.rows.specs.Basis.{basis-for}
-use Rattle.rows.specs.Rows.{depth-row, bottom-row, strake}
+use Rattle.records.specs.Place.{Load}
+use Rattle.rows.specs.Load.{Silo, number, bottom-numbers}
+use Rattle.records.specs.Place.Load.{phe}
+use Rattle.records.specs.Place.{load-place, bottom-place, strake-place}
 
--- e, the larger of e_i, e_o
-abbrev pub e-of : Silo → ℕ
-e-of c = max (c .eccentricities .inlet) (c .eccentricities .outlet)
+-- the silo that a sheet describes, mm; e is the larger of e_i, e_o
+abbrev pub silo-of : List ℕ → Silo
+silo-of s =
+    record {
+      section = section-of s;
+      product = product-of s;
+      eccentricity = max (eccentricities-of s .inlet) (eccentricities-of s .outlet);
+      height = bottom-of s .height;
+      run = bottom-of s .run;
+      foot = V-of s;
+    }
 
--- for each depth its eight numbers, from the larger eccentricity e
-unfoldable pub depth-rows : Section → Product → ℕ → List ℕ → List ℕ
-depth-rows c p e [] = []
-depth-rows c p e (z ∷ l) = depth-row c p e z ++ depth-rows c p e l
+-- the depth i as listed, mm
+abbrev pub depth : List ℕ → ℕ → ℕ
+depth s i = getD (depths-of s) i 0
 
--- for each strake below the depth `from` its number, at its lower edge
-unfoldable pub strake-numbers : Section → Product → ℕ → List ℕ → List ℕ
-strake-numbers c p from [] = []
-strake-numbers c p from (height ∷ l) = strake c p (from + height) ∷ strake-numbers c p (from + height) l
+-- the numbers of a sheet's answer list
+abbrev pub load-in : List ℕ → List ℕ → Load → ℕ → ℕ
+load-in s list l i = getD list (load-place (depth-count s) l i) 0
 
--- the parts of a sheet's answer list
-abbrev pub depths-part : List ℕ → List ℕ
-depths-part s = depth-rows (silo-of s .section) (silo-of s .product) (e-of (silo-of s)) (depths-of s)
+abbrev pub bottom-in : List ℕ → List ℕ → ℕ → ℕ
+bottom-in s list k = getD list (bottom-place (depth-count s) k) 0
 
-abbrev pub bottom-part : List ℕ → List ℕ
-bottom-part s = bottom-row (silo-of s .section) (silo-of s .product) (silo-of s .bottom .height) (silo-of s .bottom .run) (V-of s)
+abbrev pub strake-in : List ℕ → List ℕ → ℕ → ℕ
+strake-in s list k = getD list (strake-place (depth-count s) k) 0
 
-abbrev pub strakes-part : List ℕ → List ℕ
-strakes-part s = strake-numbers (silo-of s .section) (silo-of s .product) 0 (strakes-of s)
-
--- the answer list: depths, bottom, strakes
-unfoldable pub answers : List ℕ → List ℕ
-answers s = depths-part s ++ (bottom-part s ++ strakes-part s)
-
--- what is worked out once for the sheet
-abbrev pub basis-of : List ℕ → Basis
-basis-of s = basis-for (silo-of s .section) (silo-of s .product) (e-of (silo-of s))
+-- the list has the length due, and each number in its place
+pub record Filled (f : FillingNumbers) (s list : List ℕ) : Type 0 where
+  pub due : length list ≡ length-due s
+  pub at-depths : (l : Load) (i : ℕ) → i < depth-count s → load-in s list l i ≡ number f (silo-of s) l (depth s i)
+  pub at-bottom : (k : ℕ) → k < 10 → bottom-in s list k ≡ getD (bottom-numbers f (silo-of s)) k 0
+  -- p_he at the strake's lower edge
+  pub at-strakes : (k : ℕ) → k < strake-count s → strake-in s list k ≡ number f (silo-of s) phe (edge-of s (suc k))
 
 -- what the load call answers, lent a list of so many numbers: 0, or the first refusal, 14 last
 unfoldable pub loads-refusal : List ℕ → ℕ → ℕ
 loads-refusal s n = orElse (refusal-of s) (must (eqb n (length-due s)) 14)
-
-abbrev pub pickList : Bool → List ℕ → List ℕ → List ℕ
-pickList true a b = a
-pickList false a b = b
-
--- what it leaves in the list that it was lent: the answers, or the list as it was
-unfoldable pub left-by : List ℕ → List ℕ → List ℕ
-left-by s lent = pickList (eqb (loads-refusal s (length lent)) 0) (answers s) lent

@@ -1,2 +1,4 @@
 pub mod Answers
 pub mod Claim
+pub mod Promise
+pub mod program

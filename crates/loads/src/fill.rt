@@ -3,14 +3,13 @@ ghost use mathlib.Core.Path.{_≡_};
 ghost use Prim.Native.Nat.{_+_, _*_, _≤_};
 ghost use lib.ListN.{length, take};
 ghost use lib.Seq.{sets};
-ghost use Rattle.exponential.specs.Table.{table};
-ghost use Rattle.janssen.specs.Range.{InDepth};
+ghost use Rattle.exponential.specs.program.Table.{table};
+ghost use Rattle.janssen.specs.program.Pressure.{computed};
 ghost use Rattle.description.specs.Silo.{depth-count, sum};
 ghost use Rattle.sheet.specs.Refusal.{refusal-of, length-due};
-ghost use Rattle.rows.specs.Basis.{Sound};
-ghost use Rattle.rows.specs.Rows.{bottom-row};
-ghost use Rattle.loads.specs.Answers.{basis-of, strake-numbers, depths-part, answers};
-use description::Bottom;
+ghost use Rattle.rows.specs.Load.{bottom-numbers};
+ghost use Rattle.rows.specs.program.Basis.{silo-in, Reached, Sound};
+ghost use Rattle.loads.specs.program.Fill.{basis-of, strake-numbers, depths-part, answers};
 use description::Wall;
 use description::WallState;
 use description::values;
@@ -47,8 +46,8 @@ fn fill_depths(entries: &[u64; 3393], sheet: &[u8], basis: Basis, list: &mut [u3
 
 // One number for each strake, from the place `at` on.
 fn fill_strakes(entries: &[u64; 3393], basis: Basis, wall: Wall, list: &mut [u32], at: usize)
-    requires { ⌜ (now entries ≡ table) × Sound basis × (wall .count ≤ 24) × (length (wall .heights) ≡ 24) × InDepth (basis .section) (sum (take (wall .count) (wall .heights))) × (at + wall .count ≤ length (now list)) ⌝ }
-    ensures { λ _. ⌜ now (list .exit) ≡ sets (now (list .entry)) at (strake-numbers (basis .section) (basis .product) 0 (take (wall .count) (wall .heights))) ⌝ }
+    requires { ⌜ (now entries ≡ table) × Sound basis × (wall .count ≤ 24) × (length (wall .heights) ≡ 24) × Reached (silo-in basis) (sum (take (wall .count) (wall .heights))) × (at + wall .count ≤ length (now list)) ⌝ }
+    ensures { λ _. ⌜ now (list .exit) ≡ sets (now (list .entry)) at (strake-numbers (silo-in basis) 0 (take (wall .count) (wall .heights))) ⌝ }
 {
     let count = wall.count;
     let mut state = WallState::top();
@@ -60,19 +59,12 @@ fn fill_strakes(entries: &[u64; 3393], basis: Basis, wall: Wall, list: &mut [u32
     }
 }
 
-// Ten numbers for the bottom, from the place `at` on; the wall's foot is `foot` mm below the brim.
-fn fill_bottom(
-    entries: &[u64; 3393],
-    basis: Basis,
-    bottom: Bottom,
-    foot: u64,
-    list: &mut [u32],
-    at: usize,
-)
-    requires { ⌜ (now entries ≡ table) × Sound basis × InDepth (basis .section) foot × (bottom .height ≤ 25000) × (bottom .run ≤ 25000) × (at + 10 ≤ length (now list)) ⌝ }
-    ensures { λ _. ⌜ now (list .exit) ≡ sets (now (list .entry)) at (bottom-row (basis .section) (basis .product) (bottom .height) (bottom .run) foot) ⌝ }
+// Ten numbers for the bottom, from the place `at` on.
+fn fill_bottom(entries: &[u64; 3393], basis: Basis, list: &mut [u32], at: usize)
+    requires { ⌜ (now entries ≡ table) × Sound basis × (at + 10 ≤ length (now list)) ⌝ }
+    ensures { λ _. ⌜ now (list .exit) ≡ sets (now (list .entry)) at (bottom-numbers computed (silo-in basis)) ⌝ }
 {
-    let row = rows::bottom_numbers(entries, basis, bottom.height, bottom.run, foot);
+    let row = rows::bottom_numbers(entries, basis);
     store(list, at, &row);
 }
 
@@ -90,12 +82,13 @@ pub fn fill(sheet: &[u8], list: &mut [u32])
         product,
         silo.eccentricities.inlet,
         silo.eccentricities.outlet,
+        silo.bottom.height,
+        silo.bottom.run,
+        values::wall_height(sheet),
     );
     fill_depths(&entries, sheet, basis, list);
     let at = 8 * values::depth_count(sheet);
-    let foot = values::wall_height(sheet);
-    let bottom = silo.bottom;
-    fill_bottom(&entries, basis, bottom, foot, list, at);
+    fill_bottom(&entries, basis, list, at);
     let wall = silo.wall;
     fill_strakes(&entries, basis, wall, list, at + 10);
 }

@@ -1,17 +1,13 @@
 // The loads of a silo: the call that fills the answer list. Document 01, "Answer list" and "Who can be refused".
-ghost use mathlib.Core.Path.{_≡_};
-ghost use lib.ListN.{length};
-ghost use Rattle.loads.specs.Answers.{loads-refusal, left-by};
-ghost use Rattle.loads.specs.Claim.{Claim};
+ghost use Rattle.janssen.specs.program.Pressure.{computed};
+ghost use Rattle.loads.specs.Promise.{Promise};
 use description::values;
 
 mod fill; // the answer list, part by part
 
 // The load call: 0 with the list filled, or the number of the first refusal with the list as it was.
 pub fn loads(sheet: &[u8], answers: &mut [u32]) -> u32
-    ensures answer { λ r. ⌜ r ≡ loads-refusal (now (sheet .entry)) (length (now (answers .entry))) ⌝ }
-    ensures list { λ r. ⌜ now (answers .exit) ≡ left-by (now (sheet .entry)) (now (answers .entry)) ⌝ }
-    ensures demand { λ r. ⌜ (r ≡ 0 → Claim (now (sheet .entry)) (now (answers .exit))) ⌝ }
+    ensures { λ r. ⌜ Promise computed (now (sheet .entry)) (now (answers .entry)) r (now (answers .exit)) ⌝ }
 {
     let refused = sheet::refusal(sheet);
     if refused != 0 {

@@ -1,6 +1,7 @@
--- The rows of the answer list keep what is claimed of them: each number's own law, from the band of the filling pressure that it rests on.
+-- The numbers of the loads keep what is claimed of them: each its own law, from the band of the filling pressure that it rests on, and none
+-- falls with depth.
 use Prim.Native.Nat.{ℕ, zero, suc, _+_, _*_, _^_, _≤_, _<_}
-use mathlib.Core.Path.{_≡_, refl}
+use mathlib.Core.Path.{_≡_, refl, _∙_}
 use mathlib.Core.List.{List, [], _∷_}
 use native.Mathlib.Omega.{arith}
 use lib.ListN.{getD}
@@ -9,18 +10,22 @@ use Rattle.janssen.specs.declared.Product.{Product}
 use Rattle.janssen.specs.Section.{d-c}
 use Rattle.janssen.specs.Filling.{Kind, factors, q, P}
 use Rattle.janssen.specs.Filling.Kind.{horizontal, vertical, wall-friction}
-use Rattle.janssen.specs.Pressure.{filling}
-use Rattle.janssen.specs.Range.{InRange, InDepth}
-use Rattle.janssen.proofs.FillingLaws.{filling-band-two, filling-most}
+use Rattle.janssen.specs.program.Pressure.{filling, computed}
+use Rattle.janssen.specs.program.Range.{InRange}
+use Rattle.janssen.proofs.FillingLaws.{filling-band-two, filling-most, filling-rises}
 use Rattle.janssen.proofs.Geometry.{most-small}
 use Rattle.janssen.proofs.WallLoadLaws.{wall-load-band}
+use Rattle.janssen.proofs.WallLoadOrder.{wall-load-rises}
 use Rattle.allowance.proofs.LowerLaws.{Filled, filled-by-band}
 use Rattle.discharge.specs.Discharge.{p-floor}
-use Rattle.discharge.proofs.Discharge.{p-he-allowance, p-we-allowance, p-p-allowance, p-floor-allowance}
+use Rattle.discharge.proofs.Discharge.{p-e-mono, p-p-mono, p-e-allowance, p-p-allowance, p-floor-allowance}
 use Rattle.hopper.specs.Hopper.{B, n3, p-n, p-t}
 use Rattle.hopper.proofs.Hopper.{p-n-allowance, p-t-allowance}
-use Rattle.rows.specs.Rows.{depth-row, quarters, ten, bottom-row, strake}
-use Rattle.rows.specs.Holds.{DepthHolds, FloorHolds, HopperHolds, StrakeHolds}
+use Rattle.records.specs.Place.{Load}
+use Rattle.rows.specs.Load.{Silo, load-depth, pressure-at, C-h, C-w, number, quarters, ten, bottom-numbers}
+use Rattle.records.specs.Place.Load.{z, phf, pwf, pvf, PW, phe, pwe, pp}
+use Rattle.rows.specs.Holds.{InBand, Holds, BottomHolds}
+use Rattle.rows.specs.program.Basis.{Reached, Fits}
 
 -- the two shapes of the bottom
 pub ten-floor : (s : Section) (p : Product) (H x : ℕ) → ten s p H 0 x ≡ p-floor x ∷ 0 ∷ 0 ∷ 0 ∷ 0 ∷ 0 ∷ 0 ∷ 0 ∷ 0 ∷ 0 ∷ []
@@ -74,42 +79,92 @@ unfolding d-c
 d-c-most s p i = omega (arith, i .a-in .most)
 
 -- a filling pressure leaves room for its factors
-pub filling-small : (k : Kind) (s : Section) (p : Product) (z : ℕ) → InRange s p → filling k s p z < 2 ^ 25
-filling-small k s p z i = omega (arith, filling-most k s p z i, most-small k)
+pub filling-small : (k : Kind) (s : Section) (p : Product) (depth : ℕ) → InRange s p → filling k s p depth < 2 ^ 25
+filling-small k s p depth i = omega (arith, filling-most k s p depth i, most-small k)
 
-module _ (s : Section) (p : Product) (z : ℕ) (i : InRange s p) (d : InDepth s z) where
-  pub filled-at : (k : Kind) → Filled (P k s p) (q (factors k) s p z) (filling k s p z)
-  filled-at k = filled-by-band (filling-band-two k s p z i d)
+-- deeper below the brim is no less deep below the surface, which does not lie above the brim
+pub load-depth-rises : (c : Silo) (depth depth' : ℕ) → depth ≤ depth' → load-depth c depth ≤ load-depth c depth'
+unfolding load-depth
+load-depth-rises c depth depth' h = h
 
-  pub depth-holds : (e : ℕ) → p .factor ≤ 200 → 4 * e ≤ d-c s → DepthHolds s p e z (depth-row s p e z)
-  unfolding depth-row
-  depth-holds e hf he = record {
-    depth = refl;
-    p-hf-holds = filling-band-two horizontal s p z i d;
-    p-wf-holds = filling-band-two wall-friction s p z i d;
-    p-vf-holds = filling-band-two vertical s p z i d;
-    P-w-holds = wall-load-band s p z i d;
-    p-he-holds = p-he-allowance (p .factor) (filling horizontal s p z) hf (filled-at horizontal);
-    p-we-holds = p-we-allowance (filling wall-friction s p z) (filled-at wall-friction);
-    p-p-holds =
-        p-p-allowance (p .factor) e (d-c s) (filling horizontal s p z) hf (d-c-positive s p i) he (filled-at horizontal);
-  }
+pub load-depth-most : (c : Silo) (depth : ℕ) → load-depth c depth ≤ depth
+unfolding load-depth
+load-depth-most c depth = omega arith
 
-  pub strake-holds : p .factor ≤ 200 → StrakeHolds s p z (strake s p z)
-  unfolding strake
-  strake-holds hf = p-he-allowance (p .factor) (filling horizontal s p z) hf (filled-at horizontal)
+module _ (c : Silo) (fits : Fits c) where
+  filled-at : (k : Kind) (depth : ℕ) → Reached c depth
+      → Filled (P k (c .section) (c .product)) (q (factors k) (c .section) (c .product) (load-depth c depth)) (pressure-at computed c k depth)
+  filled-at k depth d = filled-by-band (filling-band-two k (c .section) (c .product) (load-depth c depth) (fits .range) d)
 
-  pub floor-holds : (H : ℕ) → FloorHolds s p z (bottom-row s p H 0 z)
-  unfolding bottom-row ten zeros-of
-  floor-holds H = record { floor-holds = p-floor-allowance (filling vertical s p z) (filled-at vertical); zeros = zero-at 9 }
+  band-at : (k : Kind) (depth : ℕ) → Reached c depth → InBand k c depth (pressure-at computed c k depth)
+  band-at k depth d = filling-band-two k (c .section) (c .product) (load-depth c depth) (fits .range) d
 
-  pub hopper-holds : (H r : ℕ) → 0 < r → HopperHolds s p H r z (bottom-row s p H r z)
-  unfolding bottom-row
-  hopper-holds H r hr =
-      let x : ℕ = filling vertical s p z in
-      let n : ℕ = n3 (p .friction) (B s p H r) in
-      rw (ten-hopper s p H r x hr)
-      (record {
-        P-n-holds = λ k hk. rw (at-normal H r (p .friction) n x k hk) (p-n-allowance s p H r k x i hr hk (filled-at vertical));
-        P-t-holds = λ k hk. rw (at-friction H r (p .friction) n x k hk) (p-t-allowance s p H r k x i hr hk (filled-at vertical));
-      })
+  -- the factors: C_h is at most 2, and 2·C_w + 1 at most 4
+  C-h-proper : 0 < C-h c .bottom
+  C-h-proper = omega arith
+
+  C-h-most : C-h c .top ≤ 2 * C-h c .bottom
+  C-h-most = omega (arith, fits .factor-most)
+
+  C-w-proper : 0 < C-w c .bottom
+  C-w-proper = omega arith
+
+  C-w-most : 2 * C-w c .top + C-w c .bottom ≤ 4 * C-w c .bottom
+  C-w-most = omega arith
+
+  -- every load's number has what is claimed of it
+  pub holds : (l : Load) (depth : ℕ) → Reached c depth → Holds c l depth (number computed c l depth)
+  holds z depth d = refl
+  holds phf depth d = band-at horizontal depth d
+  holds pwf depth d = band-at wall-friction depth d
+  holds pvf depth d = band-at vertical depth d
+  holds PW depth d = wall-load-band (c .section) (c .product) (load-depth c depth) (fits .range) d
+  holds phe depth d = p-e-allowance (C-h c) C-h-proper 5 _ (omega (arith, C-h-most)) (filled-at horizontal depth d)
+  holds pwe depth d = p-e-allowance (C-w c) C-w-proper 4 _ C-w-most (filled-at wall-friction depth d)
+  holds pp depth d =
+      p-p-allowance (C-h c) C-h-proper (c .eccentricity) (d-c (c .section)) _ C-h-most
+      (d-c-positive (c .section) (c .product) (fits .range)) (fits .eccentricity-most) (filled-at horizontal depth d)
+
+  pressure-rises : (k : Kind) (depth depth' : ℕ) → Reached c depth' → depth ≤ depth' → pressure-at computed c k depth ≤ pressure-at computed c k depth'
+  pressure-rises k depth depth' d h =
+      filling-rises k (c .section) (c .product) (load-depth c depth) (load-depth c depth') (fits .range) d (load-depth-rises c depth depth' h)
+
+  -- no load falls with depth
+  pub rises : (l : Load) (depth depth' : ℕ) → Reached c depth' → depth ≤ depth' → number computed c l depth ≤ number computed c l depth'
+  rises z depth depth' d h = h
+  rises phf depth depth' d h = pressure-rises horizontal depth depth' d h
+  rises pwf depth depth' d h = pressure-rises wall-friction depth depth' d h
+  rises pvf depth depth' d h = pressure-rises vertical depth depth' d h
+  rises PW depth depth' d h =
+      wall-load-rises (c .section) (c .product) (load-depth c depth) (load-depth c depth') (fits .range) d (load-depth-rises c depth depth' h)
+  rises phe depth depth' d h = p-e-mono (C-h c) C-h-proper (pressure-rises horizontal depth depth' d h)
+  rises pwe depth depth' d h = p-e-mono (C-w c) C-w-proper (pressure-rises wall-friction depth depth' d h)
+  rises pp depth depth' d h =
+      p-p-mono (c .eccentricity) (d-c (c .section)) (d-c-positive (c .section) (c .product) (fits .range))
+      (p-e-mono (C-h c) C-h-proper (pressure-rises horizontal depth depth' d h))
+
+  floor-at : (H x r k : ℕ) → r ≡ 0
+      → getD (ten (c .section) (c .product) H r x) k 0 ≡ getD (p-floor x ∷ 0 ∷ 0 ∷ 0 ∷ 0 ∷ 0 ∷ 0 ∷ 0 ∷ 0 ∷ 0 ∷ []) k 0
+  floor-at H x r k e = rw (e, ten-floor (c .section) (c .product) H x)
+
+  -- and the bottom's, wherever they stand
+  pub bottom-holds : (at : ℕ → ℕ) → ((k : ℕ) → k < 10 → at k ≡ getD (bottom-numbers computed c) k 0) → BottomHolds c at
+  unfolding zeros-of
+  bottom-holds at is =
+      let s : Section = c .section in
+      let p : Product = c .product in
+      let x : ℕ = number computed c pvf (c .foot) in
+      let n : ℕ = n3 (p .friction) (B s p (c .height) (c .run)) in
+      let fill = filled-at vertical (c .foot) (fits .foot-reached) in
+      record {
+        floor-holds = λ e. rw (is 0 (omega arith), floor-at (c .height) x (c .run) 0 e) (p-floor-allowance x fill);
+        zeros = λ e k h. is (suc k) (omega arith) ∙ floor-at (c .height) x (c .run) (suc k) e ∙ zero-at 9 k;
+        P-n-holds =
+            λ hr k h.
+            rw (is k (omega arith), ten-hopper s p (c .height) (c .run) x hr, at-normal (c .height) (c .run) (p .friction) n x k h)
+            (p-n-allowance s p (c .height) (c .run) k x (fits .range) hr h fill);
+        P-t-holds =
+            λ hr k h.
+            rw (is (5 + k) (omega arith), ten-hopper s p (c .height) (c .run) x hr, at-friction (c .height) (c .run) (p .friction) n x k h)
+            (p-t-allowance s p (c .height) (c .run) k x (fits .range) hr h fill);
+      }

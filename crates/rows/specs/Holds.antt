@@ -1,57 +1,51 @@
--- What holds of the numbers of a depth, of the bottom and of a strake: each lies in its band, or keeps its allowance. Document 01, "Filling"
--- and "Loads made from filling".
-use Prim.Native.Nat.{ℕ, suc, _+_, _≤_}
+-- What holds of the number of a load: it lies in its band, or keeps its allowance. Document 01, "Filling" and "Loads made from filling".
+use Prim.Native.Nat.{ℕ, suc, _+_, _≤_, _<_}
 use mathlib.Core.Path.{_≡_}
-use mathlib.Core.List.{List}
-use lib.ListN.{getD}
 use Rattle.fraction.specs.Fraction.{Fraction, whole}
-use Rattle.janssen.specs.declared.Section.{Section}
-use Rattle.janssen.specs.declared.Product.{Product}
 use Rattle.janssen.specs.Section.{d-c}
 use Rattle.janssen.specs.Filling.{Kind, factors, q, P}
 use Rattle.janssen.specs.Filling.Kind.{horizontal, vertical, wall-friction}
 use Rattle.janssen.specs.Band.{FillingBand, WallLoadBand}
 use Rattle.allowance.specs.Allowance.{Lower, Allowance}
-use Rattle.discharge.specs.Discharge.{horizontal-discharge, friction-discharge, patch, floor}
-use Rattle.hopper.specs.Hopper.{base, hopper-normal, hopper-friction, LowerHopper}
+use Rattle.discharge.specs.Discharge.{discharged, patch, floor}
+use Rattle.hopper.specs.Hopper.{Low, base, hopper-normal, hopper-friction, LowerHopper}
+use Rattle.records.specs.Place.{Load}
+use Rattle.rows.specs.Load.{Silo, load-depth, C-h, C-w}
+use Rattle.records.specs.Place.Load.{z, phf, pwf, pvf, PW, phe, pwe, pp}
 
--- a load that rests on the filling pressure of kind k at the depth z: at or above its unrounded formula F, and less than w above it
-abbrev pub RestsOn : Kind → Section → Product → ℕ → (Fraction → Fraction) → ℕ → ℕ → Type 0
-RestsOn k s p z F w load = Allowance (Lower (P k s p) (q (factors k) s p z)) F w load
+-- a filling pressure lies less than 2 above the exact value
+abbrev pub InBand : Kind → Silo → ℕ → ℕ → Type 0
+InBand k c depth n = FillingBand (whole 2) k (c .section) (c .product) (load-depth c depth) n
 
--- the eight numbers at a depth
-pub record DepthHolds (s : Section) (p : Product) (e z : ℕ) (row : List ℕ) : Type 0 where
-  pub depth : getD row 0 0 ≡ z
-  pub p-hf-holds : FillingBand (whole 2) horizontal s p z (getD row 1 0)
-  pub p-wf-holds : FillingBand (whole 2) wall-friction s p z (getD row 2 0)
-  pub p-vf-holds : FillingBand (whole 2) vertical s p z (getD row 3 0)
-  pub P-w-holds : WallLoadBand s p z (getD row 4 0)
-  pub p-he-holds : RestsOn horizontal s p z (horizontal-discharge (p .factor)) 5 (getD row 5 0)
-  pub p-we-holds : RestsOn wall-friction s p z friction-discharge 4 (getD row 6 0)
-  pub p-p-holds : RestsOn horizontal s p z (λ v. patch e (d-c s) (horizontal-discharge (p .factor) v)) 3 (getD row 7 0)
+-- a load that rests on the filling pressure of kind k at a depth: at or above its unrounded formula F, and less than w above it
+abbrev pub RestsOn : Kind → Silo → ℕ → (Fraction → Fraction) → ℕ → ℕ → Type 0
+RestsOn k c depth F w n =
+    Allowance (Lower (P k (c .section) (c .product)) (q (factors k) (c .section) (c .product) (load-depth c depth))) F w n
 
--- the flat floor
-pub record FloorHolds (s : Section) (p : Product) (foot : ℕ) (row : List ℕ) : Type 0 where
-  pub floor-holds : RestsOn vertical s p foot floor 4 (getD row 0 0)
-  pub zeros : (k : ℕ) → getD row (suc k) 0 ≡ 0
+-- what holds of a load's number n at a depth
+abbrev pub Holds : Silo → Load → ℕ → ℕ → Type 0
+Holds c z depth n = n ≡ depth
+Holds c phf depth n = InBand horizontal c depth n
+Holds c pwf depth n = InBand wall-friction c depth n
+Holds c pvf depth n = InBand vertical c depth n
+Holds c PW depth n = WallLoadBand (c .section) (c .product) (load-depth c depth) n
+Holds c phe depth n = RestsOn horizontal c depth (discharged (C-h c)) 5 n
+Holds c pwe depth n = RestsOn wall-friction c depth (discharged (C-w c)) 4 n
+Holds c pp depth n = RestsOn horizontal c depth (λ v. patch (c .eccentricity) (d-c (c .section)) (discharged (C-h c) v)) 3 n
 
--- P_n and P_t at k quarters of a hopper's slope, k = 0 to 4
-pub record HopperHolds (s : Section) (p : Product) (H r foot : ℕ) (row : List ℕ) : Type 0 where
-  pub P-n-holds :
-      (k : ℕ) →
-      k ≤ 4 →
-      Allowance (LowerHopper (P vertical s p) (q (factors vertical) s p foot) (p .friction) (base s p H r))
-      (λ l. hopper-normal H r k (l .v) (l .u))
-      8
-      (getD row k 0)
-  pub P-t-holds :
-      (k : ℕ) →
-      k ≤ 4 →
-      Allowance (LowerHopper (P vertical s p) (q (factors vertical) s p foot) (p .friction) (base s p H r))
-      (λ l. hopper-friction (p .friction) (hopper-normal H r k (l .v) (l .u)))
-      10
-      (getD row (5 + k) 0)
+-- a load of the hopper, that rests on p_vf(V) and n3
+abbrev pub HopperRests : Silo → (Low → Fraction) → ℕ → ℕ → Type 0
+HopperRests c F w n =
+    Allowance
+    (LowerHopper (P vertical (c .section) (c .product)) (q (factors vertical) (c .section) (c .product) (load-depth c (c .foot)))
+    (c .product .friction) (base (c .section) (c .product) (c .height) (c .run)))
+    F w n
 
--- a strake
-abbrev pub StrakeHolds : Section → Product → ℕ → ℕ → Type 0
-StrakeHolds s p edge load = RestsOn horizontal s p edge (horizontal-discharge (p .factor)) 5 load
+-- the bottom's ten numbers: the flat floor where there is no run, else P_n and P_t at k quarters of the hopper's slope
+pub record BottomHolds (c : Silo) (at : ℕ → ℕ) : Type 0 where
+  pub floor-holds : c .run ≡ 0 → RestsOn vertical c (c .foot) floor 4 (at 0)
+  pub zeros : c .run ≡ 0 → (k : ℕ) → k < 9 → at (suc k) ≡ 0
+  pub P-n-holds : 0 < c .run → (k : ℕ) → k ≤ 4
+      → HopperRests c (λ l. hopper-normal (c .height) (c .run) k (l .v) (l .u)) 8 (at k)
+  pub P-t-holds : 0 < c .run → (k : ℕ) → k ≤ 4
+      → HopperRests c (λ l. hopper-friction (c .product .friction) (hopper-normal (c .height) (c .run) k (l .v) (l .u))) 10 (at (5 + k))

@@ -1,3 +1,3 @@
-pub mod Rows
-pub mod Basis
+pub mod Load
 pub mod Holds
+pub mod program

@@ -1,11 +1,14 @@
 // The numbers of the answer list: of a depth, of the bottom, of a strake.
 ghost use mathlib.Core.Path.{_≡_};
 ghost use Prim.Native.Nat.{max, _*_, _^_, _<_, _≤_};
-ghost use Rattle.janssen.specs.Range.{InRange, InDepth};
+ghost use Rattle.janssen.specs.program.Range.{InRange};
 ghost use Rattle.hopper.specs.Hopper.{p-n, p-t};
-ghost use Rattle.exponential.specs.Table.{table};
-ghost use Rattle.rows.specs.Rows.{eight, depth-row, quarters, ten, bottom-row, strake};
-ghost use Rattle.rows.specs.Basis.{basis-for, Sound};
+ghost use Rattle.exponential.specs.program.Table.{table};
+ghost use Rattle.rows.specs.program.Rows.{eight, depth-row};
+ghost use Rattle.rows.specs.Load.{number, quarters, ten, bottom-numbers};
+ghost use Rattle.records.specs.Place.Load.{phe};
+ghost use Rattle.rows.specs.program.Basis.{basis-for, silo-from, silo-in, Reached, Sound};
+ghost use Rattle.janssen.specs.program.Pressure.{computed};
 use janssen::FillingLoads;
 use janssen::Pascals;
 use janssen::Prepared;
@@ -21,12 +24,25 @@ pub struct Basis {
     pub eccentricity: u64,
     // d_c, mm
     pub shorter: u64,
+    // H and r, mm
+    pub height: u64,
+    pub run: u64,
+    // the wall's foot, mm
+    pub foot: u64,
 }
 
-// The basis from section, product and the eccentricities of filling and outlet, mm.
-pub fn basis_of(section: Section, product: Product, filling: u64, outlet: u64) -> Basis
+// The basis from section, product, the eccentricities of filling and outlet, the hopper's height and run, and the wall's foot, mm.
+pub fn basis_of(
+    section: Section,
+    product: Product,
+    filling: u64,
+    outlet: u64,
+    height: u64,
+    run: u64,
+    foot: u64,
+) -> Basis
     requires { ⌜ InRange section product ⌝ }
-    ensures { λ r. ⌜ r ≡ basis-for section product (max filling outlet) ⌝ }
+    ensures { λ r. ⌜ r ≡ basis-for (silo-from section product (max filling outlet) height run foot) ⌝ }
 {
     let prepared = janssen::prepare(section, product);
     let eccentricity = discharge::eccentricity(filling, outlet);
@@ -37,6 +53,9 @@ pub fn basis_of(section: Section, product: Product, filling: u64, outlet: u64) -
         prepared,
         eccentricity,
         shorter,
+        height,
+        run,
+        foot,
     }
 }
 
@@ -134,8 +153,8 @@ fn ten_numbers(
 
 // The eight numbers of the answer list at the depth z mm.
 pub fn depth_numbers(entries: &[u64; 3393], basis: Basis, z: u64) -> [u32; 8]
-    requires { ⌜ (now entries ≡ table) × Sound basis × InDepth (basis .section) z ⌝ }
-    ensures { λ r. ⌜ r ≡ depth-row (basis .section) (basis .product) (basis .eccentricity) z ⌝ }
+    requires { ⌜ (now entries ≡ table) × Sound basis × Reached (silo-in basis) z ⌝ }
+    ensures { λ r. ⌜ r ≡ depth-row (silo-in basis) z ⌝ }
 {
     let prepared = basis.prepared;
     let filling = janssen::loads_at(entries, prepared, z);
@@ -148,29 +167,23 @@ pub fn depth_numbers(entries: &[u64; 3393], basis: Basis, z: u64) -> [u32; 8]
     )
 }
 
-// The ten numbers of the bottom, height and run in mm, for the wall's foot at the depth foot mm.
-pub fn bottom_numbers(
-    entries: &[u64; 3393],
-    basis: Basis,
-    height: u64,
-    run: u64,
-    foot: u64,
-) -> [u32; 10]
-    requires { ⌜ (now entries ≡ table) × Sound basis × InDepth (basis .section) foot × (height ≤ 25000) × (run ≤ 25000) ⌝ }
-    ensures { λ r. ⌜ r ≡ bottom-row (basis .section) (basis .product) height run foot ⌝ }
+// The ten numbers of the bottom.
+pub fn bottom_numbers(entries: &[u64; 3393], basis: Basis) -> [u32; 10]
+    requires { ⌜ (now entries ≡ table) × Sound basis ⌝ }
+    ensures { λ r. ⌜ r ≡ bottom-numbers computed (silo-in basis) ⌝ }
 {
     let prepared = basis.prepared;
     let curve = prepared.vertical;
     let section = basis.section;
     let product = basis.product;
-    let vertical = janssen::filling_pressure(entries, curve, foot);
-    ten_numbers(section, product, height, run, vertical)
+    let vertical = janssen::filling_pressure(entries, curve, basis.foot);
+    ten_numbers(section, product, basis.height, basis.run, vertical)
 }
 
 // A strake's number: p_he at its lower edge, edge mm below the brim.
 pub fn strake_number(entries: &[u64; 3393], basis: Basis, edge: u64) -> u32
-    requires { ⌜ (now entries ≡ table) × Sound basis × InDepth (basis .section) edge ⌝ }
-    ensures { λ r. ⌜ r ≡ strake (basis .section) (basis .product) edge ⌝ }
+    requires { ⌜ (now entries ≡ table) × Sound basis × Reached (silo-in basis) edge ⌝ }
+    ensures { λ r. ⌜ r ≡ number computed (silo-in basis) phe edge ⌝ }
 {
     let prepared = basis.prepared;
     let curve = prepared.horizontal;

@@ -1,7 +1,7 @@
 -- The answers of the length call: a refusal is at most 13, so never 14, and a length due is small, so that the number of
 -- an answer fits.
 use Prim.Native.Nat.{ℕ, zero, suc, _+_, _*_, _≤_, _<_}
-use mathlib.Core.Bool.{Bool, true, false}
+use mathlib.Core.Bool.{Bool, true, false, _&&_, _||_}
 use mathlib.Core.List.{List}
 use mathlib.Core.Path.{_≡_, refl}
 use native.Mathlib.Omega.{arith}
@@ -9,7 +9,7 @@ use lib.Dec.{leb, ltb, eqb}
 use lib.ListN.{length}
 use Rattle.janssen.specs.Section.{side-a, side-b, d-c}
 use Rattle.janssen.specs.declared.Product.{Product}
-use Rattle.records.specs.Rules.{both, either, within, must, orElse}
+use Rattle.records.specs.Rules.{within, must, orElse}
 use Rattle.records.specs.Format.{u16, due, allowed, place, record-rule, records-rule, layout-rule}
 use Rattle.records.proofs.Tests.{absurd}
 use Rattle.description.specs.Silo.{section-of, product-sent, eccentricities-of, bottom-of, strakes-of, depths-of, V-of, h-of}
@@ -54,7 +54,7 @@ product-most p =
     let a = within 1000 30000 (p .weight) in
     let b = within 20 100 (p .ratio) in
     let c = within 10 100 (p .friction) in
-    let d = either (eqb (p .factor) 0) (within 100 200 (p .factor)) in
+    let d = eqb (p .factor) 0 || within 100 200 (p .factor) in
     orElse-most (must a 7) (orElse (must b 7) (orElse (must c 7) (orElse (must d 7) 0))) (must-most a 7 (omega arith))
     (orElse-most (must b 7) (orElse (must c 7) (orElse (must d 7) 0)) (must-most b 7 (omega arith))
     (orElse-most (must c 7) (orElse (must d 7) 0) (must-most c 7 (omega arith))
@@ -72,9 +72,9 @@ refusal-most s =
     let c = section-of s in
     let dc = d-c c in
     let size = leb (length s) 1024 in
-    let sides = both (within 500 50000 (side-a c)) (within 500 50000 (side-b c)) in
-    let off = both (leb (4 * eccentricities-of s .inlet) dc) (leb (4 * eccentricities-of s .outlet) dc) in
-    let bottom = either (flat (bottom-of s)) (hopper dc (bottom-of s)) in
+    let sides = within 500 50000 (side-a c) && within 500 50000 (side-b c) in
+    let off = leb (4 * eccentricities-of s .inlet) dc && leb (4 * eccentricities-of s .outlet) dc in
+    let bottom = flat (bottom-of s) || hopper dc (bottom-of s) in
     let strakes = strakes-within (strakes-of s) in
     let depths = rising (V-of s) 0 (depths-of s) in
     let r7 = orElse (must depths 11) (shape-rule dc (h-of s)) in

@@ -3,15 +3,13 @@ ghost use mathlib.Core.Path.{_≡_};
 ghost use lib.ListN.{length};
 ghost use Rattle.sheet.specs.Refusal.{answers-length, answers-length-number};
 ghost use Rattle.catalogue.specs.Table.{catalogue-refusal, catalogue-after};
-ghost use Rattle.loads.specs.Answers.{loads-refusal, left-by};
-ghost use Rattle.loads.specs.Claim.{Claim};
+ghost use Rattle.janssen.specs.program.Pressure.{computed};
+ghost use Rattle.loads.specs.Promise.{Promise};
 
 // 0 with the answer list filled, or the number of the first refusal with the list as it was.
 #[no_mangle]
 pub extern "C" fn silo_loads(sheet: &[u8], answers: &mut [u32]) -> u32
-    ensures answer { λ r. ⌜ r ≡ loads-refusal (now (sheet .entry)) (length (now (answers .entry))) ⌝ }
-    ensures list { λ r. ⌜ now (answers .exit) ≡ left-by (now (sheet .entry)) (now (answers .entry)) ⌝ }
-    ensures demand { λ r. ⌜ (r ≡ 0 → Claim (now (sheet .entry)) (now (answers .exit))) ⌝ }
+    ensures { λ r. ⌜ Promise computed (now (sheet .entry)) (now (answers .entry)) r (now (answers .exit)) ⌝ }
 {
     loads::loads(sheet, answers)
 }

@@ -22,6 +22,9 @@ returns c =
       prepared = c .before .before .prepare .ensures i;
       eccentricity = c .before .eccentricity .ensures i;
       shorter = c .shorter-side .ensures .0 i;
+      height = a .height;
+      run = a .run;
+      foot = a .foot;
     }
 
 pub basis-of-spec : {M : Type 1} → statement M

@@ -1,20 +1,22 @@
 -- The filling pressure is that of the lower edge.
 use mathlib.Core.Path.{_∙_, ap}
 use native.Mathlib.Omega.{arith}
+use Rattle.fraction.specs.Fraction.{_⊘_}
 use Rattle.janssen.specs.declared.Prepared.{Prepared}
 use Rattle.janssen.specs.Filling.Kind.{horizontal}
-use Rattle.discharge.specs.Discharge.{p-he}
-use Rattle.rows.specs.Rows.{strake}
+use Rattle.discharge.specs.Discharge.{p-e}
+use Rattle.rows.specs.Load.{load-depth}
 use Rattle.rows.proofs.RowLaws.{filling-small}
 use Rattle.rows.proofs.strake_number.Statement.{statement}
 use Rattle.rows.proofs.strake_number.Tie as tie
 
 filling-pressure-requires : tie.Need-filling-pressure-requires
+unfolding load-depth
 filling-pressure-requires c κs =
     let start = c .before .before in
     let b = start .args .basis in
     let sound = start .pre .1 in
-    (start .pre .0, (horizontal, b .section, b .product, sound .range, start .pre .2, ap (λ (x : Prepared). x .horizontal) (sound .prepared-right)))
+    (start .pre .0, (horizontal, b .section, b .product, sound .fits .range, start .pre .2, ap (λ (x : Prepared). x .horizontal) (sound .prepared-right)))
 
 horizontal-discharge-requires : tie.Need-horizontal-discharge-requires
 horizontal-discharge-requires c κs =
@@ -22,15 +24,15 @@ horizontal-discharge-requires c κs =
     let b = start .args .basis in
     let sound = start .pre .1 in
     let same = c .filling-pressure .ensures horizontal (b .section) (b .product) (ap (λ (x : Prepared). x .horizontal) (sound .prepared-right)) in
-    (sound .factor-most, omega (arith, same, filling-small horizontal (b .section) (b .product) (start .args .edge) (sound .range)))
+    (sound .fits .factor-most, omega (arith, same, filling-small horizontal (b .section) (b .product) (start .args .edge) (sound .fits .range)))
 
 returns : tie.Need-returns
-unfolding strake
+unfolding load-depth
 returns c =
     let start = c .before .before .before .before in
     let b = start .args .basis in
     let same = c .before .filling-pressure .ensures horizontal (b .section) (b .product) (ap (λ (x : Prepared). x .horizontal) (start .pre .1 .prepared-right)) in
-    c .horizontal-discharge .ensures .0 ∙ ap (p-he (b .product .factor)) same
+    c .horizontal-discharge .ensures .0 ∙ ap (p-e (b .product .factor ⊘ 100)) same
 
 pub strake-number-spec : {M : Type 1} → statement M
 strake-number-spec = tie.close (tie.spec filling-pressure-requires horizontal-discharge-requires returns)

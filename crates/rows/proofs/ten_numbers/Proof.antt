@@ -5,7 +5,7 @@ use mathlib.Core.Path.{_∙_, sym, ap}
 use mathlib.Core.List.{[], _∷_}
 use native.Mathlib.Omega.{arith}
 use Rattle.hopper.specs.Hopper.{n3}
-use Rattle.rows.specs.Rows.{quarters, ten}
+use Rattle.rows.specs.Load.{quarters, ten}
 use Rattle.rows.proofs.RowLaws.{ten-floor, ten-hopper}
 use Rattle.rows.proofs.ten_numbers.Statement.{statement}
 use Rattle.rows.proofs.ten_numbers.Tie as tie

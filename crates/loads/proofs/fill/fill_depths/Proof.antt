@@ -9,16 +9,17 @@ use native.Mathlib.Omega.{arith}
 use lib.ListN.{length}
 use lib.Seq.{sets, length-sets}
 use Rattle.records.specs.Format.{u32, numbers, payload}
-use Rattle.description.specs.Silo.{silo-of, depths-of, depth-count}
+use Rattle.description.specs.Silo.{depths-of, depth-count}
 use Rattle.records.proofs.Numbers.{numbers-start}
-use Rattle.rows.specs.Rows.{depth-row}
-use Rattle.loads.specs.Answers.{e-of, depth-rows}
+use Rattle.rows.specs.program.Rows.{depth-row}
+use Rattle.loads.specs.Answers.{silo-of}
+use Rattle.loads.specs.program.Fill.{depth-rows}
 use Rattle.loads.proofs.Depths.{rows-next, rows-done, depth-read, basis-sound, basis-listed, row-is}
 use Rattle.loads.proofs.fill.fill_depths.Statement.{statement}
 use Rattle.loads.proofs.fill.fill_depths.Tie as tie
 
 abbrev rows-of : List ℕ → List ℕ → List ℕ
-rows-of s l = depth-rows (silo-of s .section) (silo-of s .product) (e-of (silo-of s)) l
+rows-of s l = depth-rows (silo-of s) l
 
 abbrev Inv-loop : tie.InvT-loop
 Inv-loop entries sheet basis list₀ count at₀ i₀ list at i =
@@ -93,15 +94,15 @@ loop-again c =
     let row = c .before .before .before .before .before .depth-numbers in
     let z = c .before .before .before .before .before .before .four-bytes in
     let n = c .before .before .before .before .before .before .before .before .before .before .depth-count .result in
-    let e : row .result ≡ depth-row (silo-of s .section) (silo-of s .product) (e-of (silo-of s)) (u32 s (l .at)) =
+    let e : row .result ≡ depth-row (silo-of s) (u32 s (l .at)) =
     row-is s b (start .pre .1) (start .pre .2) (row .result) (z .result) (row .ensures)
-    ∙ ap (depth-row (silo-of s .section) (silo-of s .product) (e-of (silo-of s))) (z .ensures .0) in (
+    ∙ ap (depth-row (silo-of s)) (z .ensures .0) in (
       omega (arith, t),
       l .inv .1,
       ap length (stored .ensures) ∙ length-sets (l .list) (8 * l .i) (row .result) ∙ l .inv .2,
       omega (arith, l .inv .3),
       l .inv .4
-          ∙ rows-next (silo-of s .section) (silo-of s .product) (e-of (silo-of s)) (u32 s) n (l .list) (l .at) (l .i) t
+          ∙ rows-next (silo-of s) (u32 s) n (l .list) (l .at) (l .i) t
           ∙ ap (λ (x : List ℕ). sets x (8 * (l .i + 1)) (rows-of s (numbers (u32 s) 4 (l .at + 4) (n - (l .i + 1)))))
           (sym (stored .ensures ∙ ap (sets (l .list) (8 * l .i)) e)),
     )
@@ -116,7 +117,7 @@ returns c =
     let s = start .args .sheet .now in
     sym
     (l .inv .4
-    ∙ rows-done (silo-of s .section) (silo-of s .product) (e-of (silo-of s)) (u32 s) (c .before .before .before .depth-count .result) (l .list) (l .at) (l .i) (c .loop-test .left))
+    ∙ rows-done (silo-of s) (u32 s) (c .before .before .before .depth-count .result) (l .list) (l .at) (l .i) (c .loop-test .left))
 
 pub fill-depths-spec : {M : Type 1} → statement M
 fill-depths-spec =

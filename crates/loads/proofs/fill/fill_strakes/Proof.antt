@@ -8,9 +8,12 @@ use native.Mathlib.Omega.{arith}
 use lib.ListN.{length, take, drop, length-set}
 use lib.Seq.{sets}
 use Rattle.description.specs.declared.WallState.{WallState}
-use Rattle.description.specs.Silo.{sum, wall-top}
-use Rattle.loads.specs.Answers.{strake-numbers}
+use Rattle.description.specs.Silo.{sum}
+use Rattle.description.specs.program.Wall.{wall-top}
+use Rattle.loads.specs.program.Fill.{strake-numbers}
 use Rattle.loads.proofs.Stores.{sets-start}
+use Rattle.rows.specs.Load.{load-depth}
+use Rattle.rows.specs.program.Basis.{silo-in}
 use Rattle.loads.proofs.Edges.{step-down, edge-fits, above-foot, strakes-next, strakes-done}
 use Rattle.loads.proofs.fill.fill_strakes.Statement.{statement}
 use Rattle.loads.proofs.fill.fill_strakes.Tie as tie
@@ -18,8 +21,8 @@ use Rattle.loads.proofs.fill.fill_strakes.Tie as tie
 abbrev Inv-loop : tie.InvT-loop
 Inv-loop entries basis wall list₀ at count state₀ k₀ list state k =
     (k ≤ count) × (count ≡ wall .count) × (length list ≡ length list₀) × (state .next ≡ k) × (state .edge ≡ sum (take k (wall .heights)))
-    × (sets list₀ at (strake-numbers (basis .section) (basis .product) 0 (take (wall .count) (wall .heights)))
-    ≡ sets list (at + k) (strake-numbers (basis .section) (basis .product) (state .edge) (drop k (take (wall .count) (wall .heights)))))
+    × (sets list₀ at (strake-numbers (silo-in basis) 0 (take (wall .count) (wall .heights)))
+    ≡ sets list (at + k) (strake-numbers (silo-in basis) (state .edge) (drop k (take (wall .count) (wall .heights)))))
 
 abbrev μ-loop : tie.MeasureT-loop
 μ-loop entries basis wall list₀ at count state₀ k₀ list state k = count - k
@@ -32,12 +35,13 @@ unfolding wall-top sum
 loop-holds c =
     let start = c .before .before in
     let a = start .args in
-    let numbers = strake-numbers (a .basis .section) (a .basis .product) in
+    let numbers = strake-numbers (silo-in (a .basis)) in
     let l = take (a .wall .count) (a .wall .heights) in
     let e : c .top .result .edge ≡ 0 = ap (λ (w : WallState). w .edge) (c .top .ensures) in
     (omega arith, refl, refl, ap (λ (w : WallState). w .next) (c .top .ensures), e, rw e (sets-start (a .list .now) (numbers 0 l) (a .at)))
 
 lowered-requires : tie.Need-lowered-requires Inv-loop μ-loop
+unfolding load-depth
 lowered-requires c κs =
     let l = c .before .loop in
     let start = c .before .before .before .before in
@@ -52,7 +56,7 @@ strake-number-requires c κs =
     let start = c .before .before .before .before .before in
     let w = start .args .wall in
     let s = step-down w (l .state) (c .lowered .result) (l .k) (w .count) (c .lowered .ensures) (l .inv .3) (l .inv .4) (c .before .loop-test .taken) (omega (arith, start .pre)) in
-    (start .pre .0, start .pre .1, above-foot (start .pre .4) (s .inside))
+    (start .pre .0, start .pre .1, above-foot (silo-in (start .args .basis)) (start .pre .4) (s .inside))
 
 add-list : tie.Need-add-list Inv-loop μ-loop
 add-list c = search needs
@@ -83,7 +87,7 @@ loop-again c =
       s .counted,
       s .passed,
       l .inv .5
-          ∙ strakes-next (a .basis .section) (a .basis .product) (w .heights) (w .count) (l .k) (c .before .before .loop-test .taken) h (l .list) (a .at) (l .state .edge)
+          ∙ strakes-next (silo-in (a .basis)) (w .heights) (w .count) (l .k) (c .before .before .loop-test .taken) h (l .list) (a .at) (l .state .edge)
           ∙ rw (← s .lower, ← c .strake-number .ensures) refl,
     )
 
@@ -97,7 +101,7 @@ returns c =
     let a = start .args in
     sym
     (l .inv .5
-    ∙ strakes-done (a .basis .section) (a .basis .product) (a .wall .heights) (a .wall .count) (l .k) (c .loop-test .left) (omega (arith, start .pre)) (l .list) (a .at) (l .state .edge))
+    ∙ strakes-done (silo-in (a .basis)) (a .wall .heights) (a .wall .count) (l .k) (c .loop-test .left) (omega (arith, start .pre)) (l .list) (a .at) (l .state .edge))
 
 pub fill-strakes-spec : {M : Type 1} → statement M
 fill-strakes-spec =

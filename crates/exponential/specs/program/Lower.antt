@@ -3,7 +3,7 @@
 use Prim.Native.Nat.{ℕ, _+_, _-_, _*_, _/_, _%_, _^_, max}
 use lib.ListN.{getD}
 use Rattle.fraction.specs.Fraction.{up, _⊘_}
-use Rattle.exponential.specs.Table.{table}
+use Rattle.exponential.specs.program.Table.{table}
 
 -- 2^33 times the first terms 4 + 3y + y² + y³/6 of (4 - y)·e^y at y = j/2^33, each rounded up
 unfoldable pub denominator : ℕ → ℕ

@@ -7,7 +7,7 @@ use Rattle.janssen.specs.declared.Prepared.{Prepared}
 use Rattle.janssen.specs.declared.FillingLoads.{FillingLoads}
 use Rattle.janssen.specs.Filling.{Kind, factors}
 use Rattle.janssen.specs.Filling.Kind.{horizontal, vertical, wall-friction}
-use Rattle.janssen.specs.Pressure.{step, limit, filling, z0-scaled, wall-load}
+use Rattle.janssen.specs.program.Pressure.{step, limit, filling, z0-scaled, wall-load}
 
 abbrev pub curve : Kind → Section → Product → Curve
 curve k s p = record { step = step (factors k) s p; limit = limit k s p }

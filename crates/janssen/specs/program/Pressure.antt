@@ -2,11 +2,12 @@
 -- proved in `proofs/`: they lie inside their bands, and no pressure falls with depth.
 use Prim.Native.Nat.{ℕ, _-_, _*_, _/_, _^_}
 use Rattle.fraction.specs.Fraction.{_⊘_, whole, _⊗_, up}
-use Rattle.exponential.specs.Lower.{lower}
+use Rattle.exponential.specs.program.Lower.{lower}
 use Rattle.janssen.specs.declared.Section.{Section}
 use Rattle.janssen.specs.declared.Product.{Product}
 use Rattle.janssen.specs.Filling.{Kind, Factors, factors, wall-load-factors, z0, q, P}
 use Rattle.janssen.specs.Filling.Kind.{wall-friction}
+use Rattle.janssen.specs.Numbers.{FillingNumbers}
 
 -- q for each mm, in 2^-55, rounded up
 unfoldable pub step : Factors → Section → Product → ℕ
@@ -43,3 +44,7 @@ load limit depth = up ((limit * depth) ⊘ (2 ^ 22 * 1000))
 -- P_w at the depth z mm, N/m
 unfoldable pub wall-load : Section → Product → ℕ → ℕ
 wall-load s p z = load (limit wall-friction s p) (loaded-depth (z0-scaled s p) (decay (step wall-load-factors s p) z) z)
+
+-- the free numbers, as the program computes them
+abbrev pub computed : FillingNumbers
+computed = record { p-f = filling; P-w = wall-load }
