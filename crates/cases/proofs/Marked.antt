@@ -14,10 +14,10 @@ use Rattle.janssen.specs.program.Range.{InRange, InDepth}
 use Rattle.janssen.specs.Section.{side-a, side-b, d-c, R}
 use Rattle.janssen.specs.Filling.{Ks, μ, z0, q, γR, P, D, N}
 use Rattle.janssen.specs.program.Pressure.{step, limit, decay, pressure, filling, z0-scaled, loaded-depth, load, wall-load, computed}
-use Rattle.discharge.specs.Discharge.{p-e, p-p}
-use Rattle.records.specs.Place.{Load}
-use Rattle.rows.specs.Load.{load-depth, C-h, C-w, number}
-use Rattle.records.specs.Place.Load.{z, phf, pwf, pvf, PW, phe, pwe, pp}
+use Rattle.discharge.specs.Discharge.{discharge-load, patch-load}
+use Rattle.loads.specs.Load.{Load}
+use Rattle.loads.specs.Load.{load-depth, C-h, C-w, number}
+use Rattle.loads.specs.Load.Load.{listed-depth, p-hf, p-wf, p-vf, P-w, p-he, p-we, p-p}
 use Rattle.records.specs.Format.{u16, u32, numbers, place, kind, payload, payload-length, due, allowed, record-rule, records-rule, layout-rule}
 use Rattle.description.specs.Silo.{section-of, product-sent, product-read, product-of, factor-read, eccentricities-of, bottom-of, strake-count, strakes-of, depth-count, depths-of, sum, V-of, h-of}
 use Rattle.sheet.specs.Refusal.{sides-rule, product-rule, eccentricities-rule, flat, hopper, bottom-rule, strakes-within, strakes-rule, rising, depths-rule, shape-rule, values-rule, refusal-of}
@@ -45,29 +45,29 @@ unfolding d-c side-a side-b
 in-depth = record { slender = omega arith; wall = omega arith }
 
 surface : (l : Load) → number computed case-silo l 0 ≡ 0
-unfolding load-depth D N p-e p-p filling pressure wall-load load loaded-depth z0-scaled decay limit step P q z0 γR R Ks μ up lower between denominator entry table side-a side-b d-c
-surface z = refl
-surface phf = refl
-surface pwf = refl
-surface pvf = refl
-surface PW = refl
-surface phe = refl
-surface pwe = refl
-surface pp = refl
+unfolding load-depth D N discharge-load patch-load filling pressure wall-load load loaded-depth z0-scaled decay limit step P q z0 γR R Ks μ up lower between denominator entry table side-a side-b d-c
+surface listed-depth = refl
+surface p-hf = refl
+surface p-wf = refl
+surface p-vf = refl
+surface P-w = refl
+surface p-he = refl
+surface p-we = refl
+surface p-p = refl
 
 middle : (l : Load) → number computed case-silo l 5000 ≡ middle-number l
-unfolding load-depth D N p-e p-p filling pressure wall-load load loaded-depth z0-scaled decay limit step P q z0 γR R Ks μ up lower between denominator entry table side-a side-b d-c
-middle z = refl
-middle phf = refl
-middle pwf = refl
-middle pvf = refl
-middle PW = refl
-middle phe = refl
-middle pwe = refl
-middle pp = refl
+unfolding load-depth D N discharge-load patch-load filling pressure wall-load load loaded-depth z0-scaled decay limit step P q z0 γR R Ks μ up lower between denominator entry table side-a side-b d-c
+middle listed-depth = refl
+middle p-hf = refl
+middle p-wf = refl
+middle p-vf = refl
+middle P-w = refl
+middle p-he = refl
+middle p-we = refl
+middle p-p = refl
 
 pub marked : Marked computed
-unfolding load-depth D N p-e p-p filling pressure wall-load load loaded-depth z0-scaled decay limit step P q z0 γR R Ks μ up lower between denominator entry table case-sheet refusal-of values-rule layout-rule records-rule record-rule due allowed place payload payload-length kind u16 u32 numbers section-of product-sent eccentricities-of bottom-of strake-count strakes-of depth-count depths-of sum V-of h-of sides-rule product-rule eccentricities-rule flat hopper bottom-rule strakes-within strakes-rule rising depths-rule shape-rule side-a side-b d-c product-of product-read factor-read
+unfolding load-depth D N discharge-load patch-load filling pressure wall-load load loaded-depth z0-scaled decay limit step P q z0 γR R Ks μ up lower between denominator entry table case-sheet refusal-of values-rule layout-rule records-rule record-rule due allowed place payload payload-length kind u16 u32 numbers section-of product-sent eccentricities-of bottom-of strake-count strakes-of depth-count depths-of sum V-of h-of sides-rule product-rule eccentricities-rule flat hopper bottom-rule strakes-within strakes-rule rising depths-rule shape-rule side-a side-b d-c product-of product-read factor-read
 marked =
     record {
       deep-limit = refl;
@@ -76,9 +76,9 @@ marked =
       friction-pair = λ p band. filling-pair wall-friction (Circle 5000) case-product 5000 in-range in-depth (lit< tt) 7344 p (ltb→lt _ _ tt) (ltb→lt _ _ tt) band;
       vertical-pair = λ p band. filling-pair vertical (Circle 5000) case-product 5000 in-range in-depth (lit< tt) 33118 p (ltb→lt _ _ tt) (ltb→lt _ _ tt) band;
       wall-load-pair = λ w band. wall-load-pair (Circle 5000) case-product 5000 in-range in-depth 21540 w (ltb→lt _ _ tt) (ltb→lt _ _ tt) band;
-      discharge = λ g e. ap (p-e (C-h case-silo)) e;
-      patch = λ g e. ap (λ (x : ℕ). p-p 0 (d-c (Circle 5000)) (p-e (C-h case-silo) x)) e;
-      friction-discharge = λ g e. ap (p-e (C-w case-silo)) e;
+      discharge = λ g e. ap (discharge-load (C-h case-silo)) e;
+      patch = λ g e. ap (λ (x : ℕ). patch-load 0 (d-c (Circle 5000)) (discharge-load (C-h case-silo) x)) e;
+      friction-discharge = λ g e. ap (discharge-load (C-w case-silo)) e;
       middle = middle;
       h-7500 = λ s u e. by-shape s 7500 u e;
       h-7499 = λ s u e. by-shape s 7499 u e;

@@ -12,10 +12,10 @@ use Rattle.janssen.specs.Filling.Kind.{horizontal}
 use Rattle.janssen.specs.Numbers.{FillingNumbers}
 use Rattle.records.specs.Format.{layout-rule}
 use Rattle.description.specs.Silo.{section-of, product-sent, product-of, eccentricities-of, bottom-of, strakes-of, depths-of, V-of, h-of}
-use Rattle.records.specs.Place.{Load}
-use Rattle.rows.specs.Load.{Silo, number}
-use Rattle.records.specs.Place.Load.{z, phf, pwf, pvf, PW, phe, pwe, pp}
-use Rattle.rows.specs.Holds.{Holds}
+use Rattle.loads.specs.Load.{Load}
+use Rattle.loads.specs.Load.{Silo, number}
+use Rattle.loads.specs.Load.Load.{listed-depth, p-hf, p-wf, p-vf, P-w, p-he, p-we, p-p}
+use Rattle.loads.specs.Holds.{Holds}
 use Rattle.sheet.specs.Refusal.{sides-rule, product-rule, eccentricities-rule, bottom-rule, strakes-rule, depths-rule, refusal-of}
 
 abbrev pub two-bytes : ℕ → List ℕ
@@ -67,14 +67,14 @@ case-silo = record { section = Circle 5000; product = case-product; eccentricity
 
 -- at 5,000: z, p_hf, p_wf, p_vf, P_w, p_he, p_we, p_p
 abbrev pub middle-number : Load → ℕ
-middle-number z = 5000
-middle-number phf = 17597
-middle-number pwf = 7345
-middle-number pvf = 33119
-middle-number PW = 21541
-middle-number phe = 24636
-middle-number pwe = 8080
-middle-number pp = 4928
+middle-number listed-depth = 5000
+middle-number p-hf = 17597
+middle-number p-wf = 7345
+middle-number p-vf = 33119
+middle-number P-w = 21541
+middle-number p-he = 24636
+middle-number p-we = 8080
+middle-number p-p = 4928
 
 -- f names the filling pressures and P_w, as in the load call's promise
 pub record Marked (f : FillingNumbers) : Type 0 where
@@ -83,14 +83,14 @@ pub record Marked (f : FillingNumbers) : Type 0 where
   -- z = 0 gives 0
   pub surface : (l : Load) → number f case-silo l 0 ≡ 0
   -- z = 5,000, any number inside its band: p_hf 17,597 or 17,598; p_wf 7,345 or 7,346; p_vf 33,119 or 33,120; P_w 21,541 or 21,542
-  pub horizontal-pair : (p : ℕ) → Holds case-silo phf 5000 p → (p ≡ 17597) ⊎ (p ≡ 17598)
-  pub friction-pair : (p : ℕ) → Holds case-silo pwf 5000 p → (p ≡ 7345) ⊎ (p ≡ 7346)
-  pub vertical-pair : (p : ℕ) → Holds case-silo pvf 5000 p → (p ≡ 33119) ⊎ (p ≡ 33120)
-  pub wall-load-pair : (w : ℕ) → Holds case-silo PW 5000 w → (w ≡ 21541) ⊎ (w ≡ 21542)
+  pub horizontal-pair : (p : ℕ) → Holds case-silo p-hf 5000 p → (p ≡ 17597) ⊎ (p ≡ 17598)
+  pub friction-pair : (p : ℕ) → Holds case-silo p-wf 5000 p → (p ≡ 7345) ⊎ (p ≡ 7346)
+  pub vertical-pair : (p : ℕ) → Holds case-silo p-vf 5000 p → (p ≡ 33119) ⊎ (p ≡ 33120)
+  pub wall-load-pair : (w : ℕ) → Holds case-silo P-w 5000 w → (w ≡ 21541) ⊎ (w ≡ 21542)
   -- p_hf 17,597 gives p_he 24,636 and p_p 4,928; p_wf 7,345 gives p_we 8,080
-  pub discharge : (g : FillingNumbers) → number g case-silo phf 5000 ≡ 17597 → number g case-silo phe 5000 ≡ 24636
-  pub patch : (g : FillingNumbers) → number g case-silo phf 5000 ≡ 17597 → number g case-silo pp 5000 ≡ 4928
-  pub friction-discharge : (g : FillingNumbers) → number g case-silo pwf 5000 ≡ 7345 → number g case-silo pwe 5000 ≡ 8080
+  pub discharge : (g : FillingNumbers) → number g case-silo p-hf 5000 ≡ 17597 → number g case-silo p-he 5000 ≡ 24636
+  pub patch : (g : FillingNumbers) → number g case-silo p-hf 5000 ≡ 17597 → number g case-silo p-p 5000 ≡ 4928
+  pub friction-discharge : (g : FillingNumbers) → number g case-silo p-wf 5000 ≡ 7345 → number g case-silo p-we 5000 ≡ 8080
   -- the numbers that the answer list has: of each pair the first
   pub middle : (l : Load) → number f case-silo l 5000 ≡ middle-number l
   -- h 7,500 accepted, 7,499 gives 13; 49,999 accepted, 50,000 gives 12

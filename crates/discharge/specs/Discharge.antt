@@ -20,13 +20,13 @@ abbrev pub floor : Fraction → Fraction
 floor v = (12 ⊘ 10) ⊗ v
 
 -- p_he = up(C·p_hf), p_we = up(C·p_wf), each with its own C
-unfoldable pub p-e : Fraction → ℕ → ℕ
-p-e C p = up (discharged C (whole p))
+unfoldable pub discharge-load : Fraction → ℕ → ℕ
+discharge-load C p = up (discharged C (whole p))
 
 -- p_p = up(0.2·β·p_he)
-unfoldable pub p-p : ℕ → ℕ → ℕ → ℕ
-p-p e d h = up (patch e d (whole h))
+unfoldable pub patch-load : ℕ → ℕ → ℕ → ℕ
+patch-load e d h = up (patch e d (whole h))
 
 -- the flat floor's load: up(1.2·p_vf(V))
-unfoldable pub p-floor : ℕ → ℕ
-p-floor p = up (floor (whole p))
+unfoldable pub floor-load : ℕ → ℕ
+floor-load p = up (floor (whole p))

@@ -6,6 +6,6 @@ use Rattle.janssen.specs.Filling.{Kind}
 
 pub record FillingNumbers : Type 0 where
   -- p_hf, p_vf and p_wf at a depth in mm, Pa
-  pub p-f : Kind → Section → Product → ℕ → ℕ
+  pub filling-at : Kind → Section → Product → ℕ → ℕ
   -- P_w at a depth in mm, N/m
-  pub P-w : Section → Product → ℕ → ℕ
+  pub wall-load-at : Section → Product → ℕ → ℕ

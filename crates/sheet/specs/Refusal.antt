@@ -1,5 +1,5 @@
--- The first refusal that applies to a sheet, and the length call. Document 01, "Who can be refused" and "Answer list".
-use Prim.Native.Nat.{ℕ, zero, suc, _+_, _*_}
+-- The first refusal that applies to a sheet. Document 01, "Who can be refused".
+use Prim.Native.Nat.{ℕ, _+_, _*_}
 use mathlib.Core.Bool.{Bool, true, _&&_, _||_}
 use mathlib.Core.List.{List, [], _∷_}
 use lib.Dec.{leb, ltb, eqb}
@@ -8,12 +8,9 @@ use Rattle.janssen.specs.declared.Product.{Product}
 use Rattle.janssen.specs.Section.{side-a, side-b, d-c}
 use Rattle.description.specs.declared.Eccentricities.{Eccentricities}
 use Rattle.description.specs.declared.Bottom.{Bottom}
-use Rattle.sheet.specs.declared.AnswersLength.{AnswersLength}
-use Rattle.sheet.specs.declared.AnswersLength.the-variants.{Due, Refused}
 use Rattle.records.specs.Rules.{within, must, orElse, firstOf}
 use Rattle.records.specs.Format.{layout-rule}
-use Rattle.records.specs.Place.{list-length}
-use Rattle.description.specs.Silo.{section-of, product-sent, eccentricities-of, bottom-of, strakes-of, depths-of, strake-count, depth-count, V-of, h-of}
+use Rattle.description.specs.Silo.{section-of, product-sent, eccentricities-of, bottom-of, strakes-of, depths-of, V-of, h-of}
 
 -- d, a or b outside 500..50,000
 unfoldable pub sides-rule : Section → ℕ
@@ -77,19 +74,3 @@ values-rule s =
 -- 0, or the number of the first refusal: rules 1 to 5 on the records, then 6 to 13 on the values
 unfoldable pub refusal-of : List ℕ → ℕ
 refusal-of s = orElse (layout-rule s) (values-rule s)
-
--- 8 numbers a depth, 10 for the bottom, one a strake
-unfoldable pub length-due : List ℕ → ℕ
-length-due s = list-length (depth-count s) (strake-count s)
-
-abbrev pub pickLength : ℕ → AnswersLength → AnswersLength
-pickLength zero a = a
-pickLength (suc n) a = Refused (suc n)
-
-unfoldable pub answers-length : List ℕ → AnswersLength
-answers-length s = pickLength (refusal-of s) (Due (length-due s))
-
--- the number of each answer: a length is marked by 2^32, so that it can't be taken for a refusal
-unfoldable pub answers-length-number : AnswersLength → ℕ
-answers-length-number (Due n) = 4294967296 + n
-answers-length-number (Refused r) = r

@@ -1,17 +1,17 @@
 // What a host sees: the exported calls over the crates below. `include/silo.h` declares them for C.
 ghost use mathlib.Core.Path.{_≡_};
 ghost use lib.ListN.{length};
-ghost use Rattle.sheet.specs.Refusal.{answers-length, answers-length-number};
+ghost use Rattle.answers.specs.Length.{answers-length, answers-length-number};
 ghost use Rattle.catalogue.specs.Table.{catalogue-refusal, catalogue-after};
 ghost use Rattle.janssen.specs.program.Pressure.{computed};
-ghost use Rattle.loads.specs.Promise.{Promise};
+ghost use Rattle.answers.specs.Promise.{Promise};
 
 // 0 with the answer list filled, or the number of the first refusal with the list as it was.
 #[no_mangle]
 pub extern "C" fn silo_loads(sheet: &[u8], answers: &mut [u32]) -> u32
     ensures { λ r. ⌜ Promise computed (now (sheet .entry)) (now (answers .entry)) r (now (answers .exit)) ⌝ }
 {
-    loads::loads(sheet, answers)
+    answers::loads(sheet, answers)
 }
 
 // 2^32 and the length due of the answer list, or the number of the first refusal.
@@ -19,7 +19,7 @@ pub extern "C" fn silo_loads(sheet: &[u8], answers: &mut [u32]) -> u32
 pub extern "C" fn silo_answers_length(sheet: &[u8]) -> u64
     ensures { λ r. ⌜ r ≡ answers-length-number (answers-length (now (sheet .entry))) ⌝ }
 {
-    sheet::answers_length(sheet).number()
+    answers::length::answers_length(sheet).number()
 }
 
 // 0 with the product record of a catalogue row and wall written, or 15 or 16 with the buffer as it was.

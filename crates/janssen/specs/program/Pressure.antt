@@ -47,4 +47,4 @@ wall-load s p z = load (limit wall-friction s p) (loaded-depth (z0-scaled s p) (
 
 -- the free numbers, as the program computes them
 abbrev pub computed : FillingNumbers
-computed = record { p-f = filling; P-w = wall-load }
+computed = record { filling-at = filling; wall-load-at = wall-load }

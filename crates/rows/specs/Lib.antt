@@ -1,3 +1,0 @@
-pub mod Load
-pub mod Holds
-pub mod program
