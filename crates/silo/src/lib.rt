@@ -3,6 +3,7 @@ ghost use mathlib.Core.Path.{_≡_};
 ghost use lib.ListN.{length};
 ghost use Rattle.answers.specs.Length.{answers-length, answers-length-number};
 ghost use Rattle.catalogue.specs.Table.{catalogue-refusal, catalogue-after};
+ghost use Rattle.governing.specs.Strakes.{governs, governs-number};
 ghost use Rattle.janssen.specs.program.Pressure.{computed};
 ghost use Rattle.answers.specs.Promise.{Promise};
 
@@ -29,4 +30,12 @@ pub extern "C" fn silo_catalogue(row: u32, wall: u32, record: &mut [u8]) -> u32
     ensures buffer { λ r. ⌜ now («record» .exit) ≡ catalogue-after row wall (now («record» .entry)) ⌝ }
 {
     catalogue::catalogue(row, wall, record)
+}
+
+// Of two strake lists the one that governs: 1 the first, 2 the second, 0 an empty part of the first.
+#[no_mangle]
+pub extern "C" fn silo_governing(first: &[u32], second: &[u32]) -> u32
+    ensures { λ r. ⌜ r ≡ governs-number (governs (now (first .entry)) (now (second .entry))) ⌝ }
+{
+    governing::which(first, second).number()
 }
