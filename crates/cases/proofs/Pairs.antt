@@ -15,8 +15,8 @@ use Rattle.janssen.specs.declared.Product.{Product}
 use Rattle.janssen.specs.Filling.{Kind, factors, wall-load-factors, q, P, D, N}
 use Rattle.janssen.specs.Filling.Kind.{wall-friction}
 use Rattle.janssen.specs.Band.{FillingBand, WallLoadBand}
-use Rattle.janssen.specs.Pressure.{step, decay}
-use Rattle.janssen.specs.Range.{InRange, InDepth}
+use Rattle.janssen.specs.program.Pressure.{step, decay}
+use Rattle.janssen.specs.program.Range.{InRange, InDepth}
 use Rattle.janssen.proofs.Geometry.{q-pos}
 use Rattle.janssen.proofs.FillingLaws.{decay-below, decay-reaches}
 

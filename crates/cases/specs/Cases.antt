@@ -4,17 +4,18 @@ use mathlib.Core.List.{List, [], _∷_, _++_}
 use mathlib.Core.Logic.{_⊎_}
 use mathlib.Core.Path.{_≡_}
 use lib.ListN.{length}
-use Rattle.fraction.specs.Fraction.{whole}
 use Rattle.janssen.specs.Section.{d-c}
 use Rattle.janssen.specs.declared.Section.the-variants.{Circle}
 use Rattle.janssen.specs.declared.Product.{Product}
 use Rattle.janssen.specs.Filling.{P}
-use Rattle.janssen.specs.Filling.Kind.{horizontal, vertical, wall-friction}
-use Rattle.janssen.specs.Band.{FillingBand, WallLoadBand}
-use Rattle.discharge.specs.Discharge.{p-he, p-we, p-p}
+use Rattle.janssen.specs.Filling.Kind.{horizontal}
+use Rattle.janssen.specs.Numbers.{FillingNumbers}
 use Rattle.records.specs.Format.{layout-rule}
 use Rattle.description.specs.Silo.{section-of, product-sent, product-of, eccentricities-of, bottom-of, strakes-of, depths-of, V-of, h-of}
-use Rattle.rows.specs.Rows.{depth-row}
+use Rattle.loads.specs.Load.{Load}
+use Rattle.loads.specs.Load.{Silo, number}
+use Rattle.loads.specs.Load.Load.{listed-depth, p-hf, p-wf, p-vf, P-w, p-he, p-we, p-p}
+use Rattle.loads.specs.Holds.{Holds}
 use Rattle.sheet.specs.Refusal.{sides-rule, product-rule, eccentricities-rule, bottom-rule, strakes-rule, depths-rule, refusal-of}
 
 abbrev pub two-bytes : ℕ → List ℕ
@@ -60,22 +61,38 @@ pub record UpToEleven (s : List ℕ) : Type 0 where
 abbrev pub case-product : Product
 case-product = record { weight = 9000; ratio = 50; friction = 40; factor = 140 }
 
-pub record Marked : Type 0 where
+-- the silo of the cases, e 0 and flat, its foot at 10,000
+abbrev pub case-silo : Silo
+case-silo = record { section = Circle 5000; product = case-product; eccentricity = 0; height = 0; run = 0; foot = 10000 }
+
+-- at 5,000: z, p_hf, p_wf, p_vf, P_w, p_he, p_we, p_p
+abbrev pub middle-number : Load → ℕ
+middle-number listed-depth = 5000
+middle-number p-hf = 17597
+middle-number p-wf = 7345
+middle-number p-vf = 33119
+middle-number P-w = 21541
+middle-number p-he = 24636
+middle-number p-we = 8080
+middle-number p-p = 4928
+
+-- f names the filling pressures and P_w, as in the load call's promise
+pub record Marked (f : FillingNumbers) : Type 0 where
   -- P for p_hf is 31,250
   pub deep-limit : P horizontal (Circle 5000) case-product .top ≡ 31250 * P horizontal (Circle 5000) case-product .bottom
   -- z = 0 gives 0
-  pub surface : depth-row (Circle 5000) case-product 0 0 ≡ 0 ∷ 0 ∷ 0 ∷ 0 ∷ 0 ∷ 0 ∷ 0 ∷ 0 ∷ []
+  pub surface : (l : Load) → number f case-silo l 0 ≡ 0
   -- z = 5,000, any number inside its band: p_hf 17,597 or 17,598; p_wf 7,345 or 7,346; p_vf 33,119 or 33,120; P_w 21,541 or 21,542
-  pub horizontal-pair : (p : ℕ) → FillingBand (whole 2) horizontal (Circle 5000) case-product 5000 p → (p ≡ 17597) ⊎ (p ≡ 17598)
-  pub friction-pair : (p : ℕ) → FillingBand (whole 2) wall-friction (Circle 5000) case-product 5000 p → (p ≡ 7345) ⊎ (p ≡ 7346)
-  pub vertical-pair : (p : ℕ) → FillingBand (whole 2) vertical (Circle 5000) case-product 5000 p → (p ≡ 33119) ⊎ (p ≡ 33120)
-  pub wall-load-pair : (w : ℕ) → WallLoadBand (Circle 5000) case-product 5000 w → (w ≡ 21541) ⊎ (w ≡ 21542)
+  pub horizontal-pair : (p : ℕ) → Holds case-silo p-hf 5000 p → (p ≡ 17597) ⊎ (p ≡ 17598)
+  pub friction-pair : (p : ℕ) → Holds case-silo p-wf 5000 p → (p ≡ 7345) ⊎ (p ≡ 7346)
+  pub vertical-pair : (p : ℕ) → Holds case-silo p-vf 5000 p → (p ≡ 33119) ⊎ (p ≡ 33120)
+  pub wall-load-pair : (w : ℕ) → Holds case-silo P-w 5000 w → (w ≡ 21541) ⊎ (w ≡ 21542)
   -- p_hf 17,597 gives p_he 24,636 and p_p 4,928; p_wf 7,345 gives p_we 8,080
-  pub discharge : p-he 140 17597 ≡ 24636
-  pub patch : p-p 0 5000 24636 ≡ 4928
-  pub friction-discharge : p-we 7345 ≡ 8080
-  -- the row that the answer list has: of each pair the first
-  pub middle : depth-row (Circle 5000) case-product 0 5000 ≡ 5000 ∷ 17597 ∷ 7345 ∷ 33119 ∷ 21541 ∷ 24636 ∷ 8080 ∷ 4928 ∷ []
+  pub discharge : (g : FillingNumbers) → number g case-silo p-hf 5000 ≡ 17597 → number g case-silo p-he 5000 ≡ 24636
+  pub patch : (g : FillingNumbers) → number g case-silo p-hf 5000 ≡ 17597 → number g case-silo p-p 5000 ≡ 4928
+  pub friction-discharge : (g : FillingNumbers) → number g case-silo p-wf 5000 ≡ 7345 → number g case-silo p-we 5000 ≡ 8080
+  -- the numbers that the answer list has: of each pair the first
+  pub middle : (l : Load) → number f case-silo l 5000 ≡ middle-number l
   -- h 7,500 accepted, 7,499 gives 13; 49,999 accepted, 50,000 gives 12
   pub h-7500 : (s : List ℕ) → UpToEleven s → h-of s ≡ 7500 → refusal-of s ≡ 0
   pub h-7499 : (s : List ℕ) → UpToEleven s → h-of s ≡ 7499 → refusal-of s ≡ 13

@@ -1,7 +1,7 @@
 -- The record that the catalogue writes is accepted as the product record of a sheet: with anything before and behind
 -- it, its bytes read back as the product of its row and wall, and every row of the table is inside rule 7.
 use Prim.Native.Nat.{ℕ, zero, suc, _+_, _*_, _≤_, _<_}
-use mathlib.Core.Bool.{Bool, true}
+use mathlib.Core.Bool.{Bool, true, _&&_}
 use mathlib.Core.List.{List, [], _∷_, _++_}
 use mathlib.Core.Path.{_≡_, refl, ap, ap₂, _∙_}
 use native.Mathlib.Omega.{arith}
@@ -10,7 +10,6 @@ use lib.Dec.{eqb}
 use lib.ListN.{length, getD, length-append}
 use lib.Seq.{getD-append-add}
 use Rattle.janssen.specs.declared.Product.{Product}
-use Rattle.records.specs.Rules.{both}
 use Rattle.records.specs.Format.{u16, u32, place, payload, due, allowed, record-rule}
 use Rattle.records.proofs.Tests.{absurd, both-true}
 use Rattle.description.specs.Silo.{product-sent}
@@ -35,7 +34,7 @@ module _ (p l : List ℕ) where
 -- a test on every row of the table
 all : (Material → Bool) → List Material → Bool
 all f [] = true
-all f (m ∷ l) = both (f m) (all f l)
+all f (m ∷ l) = f m && all f l
 
 all-at : (f : Material → Bool) (l : List Material) → all f l ≡ true → (i : ℕ) (d : Material) → i < length l → f (getD l i d) ≡ true
 unfolding all
@@ -46,10 +45,10 @@ all-at f (x ∷ l) h (suc i) d m = all-at f l (both-true (f x) (all f l) h .1) i
 -- a product passes rule 7, and its record reads back as itself
 read-back : Product → Bool
 read-back r =
-    both (eqb (product-rule r) 0)
-    (both (eqb (u32 (record-of r) 4) (r .weight))
-    (both (eqb (u16 (record-of r) 8) (r .ratio))
-    (both (eqb (u16 (record-of r) 10) (r .friction)) (eqb (u16 (record-of r) 12) (r .factor)))))
+    eqb (product-rule r) 0
+    && (eqb (u32 (record-of r) 4) (r .weight)
+    && (eqb (u16 (record-of r) 8) (r .ratio)
+    && (eqb (u16 (record-of r) 10) (r .friction) && eqb (u16 (record-of r) 12) (r .factor))))
 
 on-steel : Material → Bool
 on-steel m = read-back (product-for m 0)

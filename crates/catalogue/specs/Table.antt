@@ -1,10 +1,11 @@
 -- The catalogue of products: table 7.1 of source 001. Document 01, "Answer list" and "Who can be refused".
 use Prim.Native.Nat.{ℕ, zero, suc, _/_, _%_}
+use mathlib.Core.Bool.{cond}
 use mathlib.Core.List.{List, [], _∷_}
 use lib.ListN.{length, getD}
 use lib.Dec.{leb, eqb}
 use Rattle.janssen.specs.declared.Product.{Product}
-use Rattle.records.specs.Rules.{pick, must, orElse}
+use Rattle.records.specs.Rules.{must, orElse}
 use Rattle.catalogue.specs.declared.Material.{Material}
 
 -- γ (N/m³), Ks, μ on steel, μ on concrete, C0 (hundredths)
@@ -32,7 +33,7 @@ row-of row = getD materials row (material 0 0 0 0 0)
 
 -- wall 0 steel, wall 1 concrete
 unfoldable pub friction-of : Material → ℕ → ℕ
-friction-of m wall = pick (eqb wall 0) (m .steel) (m .concrete)
+friction-of m wall = cond (eqb wall 0) (m .steel) (m .concrete)
 
 unfoldable pub product-for : Material → ℕ → Product
 product-for m wall =

@@ -1,1 +1,2 @@
 pub mod Silo
+pub mod program

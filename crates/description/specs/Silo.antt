@@ -1,28 +1,20 @@
 -- The silo that a sheet describes. Document 01, "Sheet".
-use Prim.Native.Nat.{ℕ, zero, suc, _+_, _-_, _/_}
-use mathlib.Core.Bool.{Bool, true, false}
-use mathlib.Core.List.{List, [], _∷_, _++_}
-use lib.ListN.{getD, take, replicate}
+use Prim.Native.Nat.{ℕ, _+_, _/_}
+use mathlib.Core.Bool.{cond}
+use mathlib.Core.List.{List, [], _∷_}
+use lib.ListN.{take}
 use lib.Dec.{eqb}
 use Rattle.janssen.specs.declared.Section.{Section}
 use Rattle.janssen.specs.declared.Section.the-variants.{Circle, Rectangle}
 use Rattle.janssen.specs.declared.Product.{Product}
 use Rattle.description.specs.declared.Eccentricities.{Eccentricities}
 use Rattle.description.specs.declared.Bottom.{Bottom}
-use Rattle.description.specs.declared.Wall.{Wall}
-use Rattle.description.specs.declared.WallState.{WallState}
-use Rattle.description.specs.declared.Silo.{Silo}
-use Rattle.records.specs.Rules.{pick}
 use Rattle.records.specs.Format.{u16, u32, numbers, kind, payload, payload-length}
-
-abbrev pub pickSection : Bool → Section → Section → Section
-pickSection true a b = a
-pickSection false a b = b
 
 -- kind 1, circle: d; or kind 2, rectangle: a, b, mm
 unfoldable pub section-of : List ℕ → Section
 section-of s =
-    pickSection (eqb (kind s 0) 1) (Circle (u32 s (payload s 0)))
+    cond (eqb (kind s 0) 1) (Circle (u32 s (payload s 0)))
     (Rectangle (u32 s (payload s 0)) (u32 s (payload s 0 + 4)))
 
 -- γ (N/m³), Ks, μ, C0 (hundredths) as sent
@@ -37,7 +29,7 @@ product-sent s =
 
 -- the factor C0 = 0 is read as 135
 unfoldable pub factor-read : ℕ → ℕ
-factor-read c = pick (eqb c 0) 135 c
+factor-read c = cond (eqb c 0) 135 c
 
 unfoldable pub product-read : Product → Product
 product-read p =
@@ -83,30 +75,3 @@ edge-of s k = sum (take k (strakes-of s))
 -- h = V + H, mm
 unfoldable pub h-of : List ℕ → ℕ
 h-of s = V-of s + bottom-of s .height
-
--- 24 places for the heights, and how many of them are strakes
-unfoldable pub wall-of : List ℕ → Wall
-wall-of s = record { heights = strakes-of s ++ replicate (24 - strake-count s) 0; count = strake-count s }
-
-unfoldable pub silo-of : List ℕ → Silo
-silo-of s =
-    record {
-      section = section-of s;
-      product = product-of s;
-      eccentricities = eccentricities-of s;
-      bottom = bottom-of s;
-      wall = wall-of s;
-    }
-
--- the brim, before the first strake
-unfoldable pub wall-top : WallState
-wall-top = record { next = 0; edge = 0 }
-
--- the state after one strake more, with its lower edge
-unfoldable pub wall-lowered : Wall → WallState → WallState
-wall-lowered w t = record { next = t .next + 1; edge = t .edge + getD (w .heights) (t .next) 0 }
-
--- the state after k strakes
-unfoldable pub wall-after : Wall → ℕ → WallState
-wall-after w zero = wall-top
-wall-after w (suc k) = wall-lowered w (wall-after w k)

@@ -2,7 +2,8 @@
 ghost use mathlib.Core.Path.{_≡_};
 ghost use Prim.Native.Nat.{_+_, _<_, _≤_};
 ghost use lib.ListN.{getD};
-ghost use Rattle.description.specs.Silo.{strake-count, silo-of, wall-lowered, wall-top};
+ghost use Rattle.description.specs.Silo.{strake-count};
+ghost use Rattle.description.specs.program.Wall.{silo-read, wall-lowered, wall-top};
 use janssen::Product;
 use janssen::Section;
 
@@ -44,7 +45,7 @@ pub struct Silo {
 // The silo that a sheet with at most 24 strakes describes.
 pub fn read_silo(sheet: &[u8]) -> Silo
     requires { ⌜ strake-count (now sheet) ≤ 24 ⌝ }
-    ensures { λ r. ⌜ r ≡ silo-of (now (sheet .entry)) ⌝ }
+    ensures { λ r. ⌜ r ≡ silo-read (now (sheet .entry)) ⌝ }
 {
     Silo {
         section: values::read_section(sheet),

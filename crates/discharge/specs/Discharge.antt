@@ -2,15 +2,10 @@
 -- once over fractions, rounding nothing; the load rounds it up at the whole pressure that it rests on.
 use Prim.Native.Nat.{ℕ, _*_}
 use Rattle.fraction.specs.Fraction.{Fraction, _⊘_, whole, _⊕_, _⊗_, up}
-use Rattle.janssen.specs.Filling.{hundredths}
 
--- C0·p_hf (5.21 and 5.23), C0 in hundredths
-abbrev pub horizontal-discharge : ℕ → Fraction → Fraction
-horizontal-discharge C0 v = hundredths C0 ⊗ v
-
--- 1.1·p_wf (5.20 and 5.23)
-abbrev pub friction-discharge : Fraction → Fraction
-friction-discharge v = (11 ⊘ 10) ⊗ v
+-- a filling pressure at discharge, C times as large (5.20, 5.21 and 5.23)
+abbrev pub discharged : Fraction → Fraction → Fraction
+discharged C v = C ⊗ v
 
 -- β = 1 + 4e/d_c (5.25), e and d_c in mm
 abbrev pub β : ℕ → ℕ → Fraction
@@ -24,18 +19,14 @@ patch e d v = (2 ⊘ 10) ⊗ β e d ⊗ v
 abbrev pub floor : Fraction → Fraction
 floor v = (12 ⊘ 10) ⊗ v
 
--- p_he = up(C0·p_hf)
-unfoldable pub p-he : ℕ → ℕ → ℕ
-p-he C0 p = up (horizontal-discharge C0 (whole p))
-
--- p_we = up(1.1·p_wf)
-unfoldable pub p-we : ℕ → ℕ
-p-we p = up (friction-discharge (whole p))
+-- p_he = up(C·p_hf), p_we = up(C·p_wf), each with its own C
+unfoldable pub discharge-load : Fraction → ℕ → ℕ
+discharge-load C p = up (discharged C (whole p))
 
 -- p_p = up(0.2·β·p_he)
-unfoldable pub p-p : ℕ → ℕ → ℕ → ℕ
-p-p e d h = up (patch e d (whole h))
+unfoldable pub patch-load : ℕ → ℕ → ℕ → ℕ
+patch-load e d h = up (patch e d (whole h))
 
 -- the flat floor's load: up(1.2·p_vf(V))
-unfoldable pub p-floor : ℕ → ℕ
-p-floor p = up (floor (whole p))
+unfoldable pub floor-load : ℕ → ℕ
+floor-load p = up (floor (whole p))

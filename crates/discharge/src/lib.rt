@@ -1,13 +1,14 @@
 // Loads on wall and flat floor made from filling pressures. Source 001, clauses 5.2.1.2 and 5.2.2.1.
 ghost use mathlib.Core.Path.{_≡_};
 ghost use Prim.Native.Nat.{_*_, _^_, _<_, _≤_, max};
-ghost use Rattle.discharge.specs.Discharge.{p-he, p-we, p-p, p-floor};
+ghost use Rattle.discharge.specs.Discharge.{discharge-load, patch-load, floor-load};
+ghost use Rattle.fraction.specs.Fraction.{_⊘_};
 use janssen::Pascals;
 
 // p_he from p_hf; factor is C0 in hundredths.
 pub fn horizontal_discharge(factor: u64, filling: Pascals) -> Pascals
     requires { ⌜ (factor ≤ 200) × (filling .0 < 2 ^ 25) ⌝ }
-    ensures { λ r. ⌜ (r .0 ≡ p-he factor (filling .0)) × (r .0 ≤ 2 ^ 26) ⌝ }
+    ensures { λ r. ⌜ (r .0 ≡ discharge-load (factor ⊘ 100) (filling .0)) × (r .0 ≤ 2 ^ 26) ⌝ }
 {
     Pascals(fraction::quotient_up(factor * filling.0 as u64, 100) as u32)
 }
@@ -15,7 +16,7 @@ pub fn horizontal_discharge(factor: u64, filling: Pascals) -> Pascals
 // p_we from p_wf.
 pub fn friction_discharge(filling: Pascals) -> Pascals
     requires { ⌜ filling .0 < 2 ^ 25 ⌝ }
-    ensures { λ r. ⌜ r .0 ≡ p-we (filling .0) ⌝ }
+    ensures { λ r. ⌜ r .0 ≡ discharge-load (11 ⊘ 10) (filling .0) ⌝ }
 {
     Pascals(fraction::quotient_up(11 * filling.0 as u64, 10) as u32)
 }
@@ -30,7 +31,7 @@ pub fn eccentricity(filling: u64, outlet: u64) -> u64
 // p_p from p_he; e and d = d_c in mm.
 pub fn patch(e: u64, d: u64, horizontal: Pascals) -> Pascals
     requires { ⌜ (0 < d) × (d ≤ 50000) × (4 * e ≤ d) × (horizontal .0 ≤ 2 ^ 26) ⌝ }
-    ensures { λ r. ⌜ r .0 ≡ p-p e d (horizontal .0) ⌝ }
+    ensures { λ r. ⌜ r .0 ≡ patch-load e d (horizontal .0) ⌝ }
 {
     Pascals(fraction::quotient_up((d + 4 * e) * horizontal.0 as u64, 5 * d) as u32)
 }
@@ -38,7 +39,7 @@ pub fn patch(e: u64, d: u64, horizontal: Pascals) -> Pascals
 // The load on a flat floor from p_vf at the wall's foot.
 pub fn floor(filling: Pascals) -> Pascals
     requires { ⌜ filling .0 < 2 ^ 25 ⌝ }
-    ensures { λ r. ⌜ r .0 ≡ p-floor (filling .0) ⌝ }
+    ensures { λ r. ⌜ r .0 ≡ floor-load (filling .0) ⌝ }
 {
     Pascals(fraction::quotient_up(12 * filling.0 as u64, 10) as u32)
 }

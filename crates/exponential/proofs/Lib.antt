@@ -5,3 +5,4 @@ pub mod Weighted
 pub mod Joins
 pub mod TableLaws
 pub mod LowerLaws
+pub mod LowerDrop

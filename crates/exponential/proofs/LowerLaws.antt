@@ -2,7 +2,7 @@
 -- (`lower-below`), less than 354 below (`lower-above`), 512 more reaches it at any fraction that Q/2^33 rounds up (`lower-reaches`),
 -- it never rises with Q (`lower-falls`), and it is 2^40 at 0 (`lower-zero`).
 -- The denominator is 2^33·(4 + 3y + y² + y³/6) with two terms rounded up, y = j/2^33 < 1/64: at least (4 - y)·S_n(y) for every n, and
--- at most 3 above it at n = 4.
+-- at most 5/2 above it at n = 4.
 -- Assumes nothing.
 use mathlib.Core.Path.{_≡_, refl, ap}
 use Prim.Native.Nat.{ℕ, _+_, _-_, _*_, _/_, _%_, _^_, max, _≤_, _<_}
@@ -14,8 +14,8 @@ use Rattle.fraction.specs.Fraction.{Fraction, up, _⊘_, whole, _⊗_, _⪯_}
 use Rattle.fraction.proofs.Order.{compare, ⪯-trans, ≺-⪯-trans, ⊗-mono, ⪯-refl}
 use Rattle.fraction.proofs.Up.{up-ge, up-lt, up-mono}
 use Rattle.exponential.specs.Series.{S, Below, Reaches, Above}
-use Rattle.exponential.specs.Table.{table}
-use Rattle.exponential.specs.Lower.{denominator, between, entry, lower}
+use Rattle.exponential.specs.program.Table.{table}
+use Rattle.exponential.specs.program.Lower.{denominator, between, entry, lower}
 use Rattle.exponential.proofs.Terms.{terms, terms-are, S-positive}
 use Rattle.exponential.proofs.Weighted.{wsum, weighted-bound, weighted-equal, sum-at-most, sum-at-least}
 use Rattle.exponential.proofs.SeriesLaws.{S-one, S-mono, S-split}
@@ -72,8 +72,8 @@ module _ (j : ℕ) where
   pub denominator-large : 2 ^ 35 ≤ denominator j
   denominator-large = rw denominator-is (omega arith)
 
-  -- and at most 3 above (4 - y)·S_4(y)
-  pub denominator-below : j < 2 ^ 27 → (lo : ℕ) → lo + 3 ≡ denominator j → whole lo ⪯ whole (2 ^ 35 - j) ⊗ S 4 (j ⊘ 2 ^ 33)
+  -- and at most 5/2 above (4 - y)·S_4(y)
+  pub denominator-below : j < 2 ^ 27 → (lo : ℕ) → lo + 5 ≡ 2 * denominator j → whole lo ⪯ whole (2 * (2 ^ 35 - j)) ⊗ S 4 (j ⊘ 2 ^ 33)
   unfolding wsum
   denominator-below h lo e =
       let u = terms 5 j (2 ^ 33) in
@@ -87,7 +87,7 @@ module _ (j : ℕ) where
       let three' : 192 * u 3 ≤ u 2 = omega (arith, is 2 (omega arith), mul-le-mul-right (u 2) h) in
       let four : 256 * u 4 ≤ u 3 = omega (arith, is 3 (omega arith), mul-le-mul-right (u 3) h) in
       let last : 3 * (j * u 4) ≤ u 0 = omega (arith, mul-le-mul-right (u 4) h) in
-      sum-at-least 5 j (2 ^ 33) 4 (2 ^ 35 - j) lo (omega arith) (omega arith)
+      sum-at-least 5 j (2 ^ 33) 4 (2 * (2 ^ 35 - j)) lo (omega arith) (omega arith)
       (omega (
         arith,
         weighted-equal 5 j (2 ^ 33) (2 ^ 35 - j) 4 u is (omega arith) 4 (omega arith) (le-refl 4),
@@ -113,9 +113,9 @@ either-max P a b pa pb = go (decLe a b)
     go (yes l) = rw (max-eq-right l) pb
     go (no l) = rw (max-eq-left {n = a} {m = b} (omega arith)) pa
 
--- 354 covers the table's 256, the quotient's rounding, and 3 in 2^35 of the denominator
-enough : (t num den q e lo : ℕ) → lo + 3 ≡ den → num ≤ den → t * num < q * den + den → q ≤ e → e ≤ 2 ^ 40 → 2 ^ 35 ≤ den
-    → (t + 256) * num ≤ (e + 354) * lo
+-- 354 covers the table's 256, the quotient's rounding, and 5/2 in 2^35 of the denominator
+enough : (t num den q e lo : ℕ) → lo + 5 ≡ 2 * den → num ≤ den → t * num < q * den + den → q ≤ e → e ≤ 2 ^ 40 → 2 ^ 35 ≤ den
+    → (t + 256) * (2 * num) ≤ (e + 354) * lo
 enough t num den q e lo is hn ht hq he hd =
     omega (arith, mul-le-mul-right den hq, ap (λ (x : ℕ). e * x) is)
 
@@ -175,11 +175,12 @@ module _ (k j : ℕ) (hk : k < 3392) (hj : j < 2 ^ 27) where
 
   bound-above : Above (bound + 354) ((k * 2 ^ 27 + j) ⊘ 2 ^ 33)
   bound-above =
-      let e : denominator j - 3 + 3 ≡ denominator j = omega (arith, denominator-large j) in
-      above-join (k * 2 ^ 27) j (2 ^ 33) (entry k + 256) (bound + 354) (denominator j - 3) (2 ^ 35 - j) 4 (omega arith) (omega arith)
+      let lo : ℕ = 2 * denominator j - 5 in
+      let e : lo + 5 ≡ 2 * denominator j = omega (arith, denominator-large j) in
+      above-join (k * 2 ^ 27) j (2 ^ 33) (entry k + 256) (bound + 354) lo (2 * (2 ^ 35 - j)) 4 (omega arith) (omega arith)
       (above-mono (entry k + 256) here (enclosed k (omega arith) .1))
-      (denominator-below j hj (denominator j - 3) e)
-      (enough (entry k) (2 ^ 35 - j) (denominator j) quotient bound (denominator j - 3) e (omega (arith, denominator-large j))
+      (denominator-below j hj lo e)
+      (enough (entry k) (2 ^ 35 - j) (denominator j) quotient bound lo e (omega (arith, denominator-large j))
       quotient-gt bound-ge (le-trans bound-le (entry-le k (omega arith))) (denominator-large j))
 
 module _ (Q : ℕ) (h : Q < 53 * 2 ^ 33) where
@@ -276,7 +277,7 @@ cost E b c y Tx Bx Ty By Tz Bz hb hy hz e hd h1 hE hS hd' =
     (arith, less, ap (λ (x : ℕ). Bx * x) e, mul-le-mul-left Bx hd, mul-le-mul-left b h1)) hb
 
 -- (1 - y)·S_n(y) ≤ 1
-near-one : (n y b c : ℕ) → 0 < b → c + y ≡ b → whole c ⊗ S n (y ⊘ b) ⪯ whole b
+pub near-one : (n y b c : ℕ) → 0 < b → c + y ≡ b → whole c ⊗ S n (y ⊘ b) ⪯ whole b
 unfolding wsum
 near-one n y b c hb e =
     let u = terms (1 + n) y b in

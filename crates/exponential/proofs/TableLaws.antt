@@ -12,8 +12,8 @@ use lib.Dec.{T, leb, leb→le, lit<, lit≤}
 use lib.ListN.{length, getD}
 use Rattle.fraction.specs.Fraction.{_⊘_, whole, _⊗_, _⪯_}
 use Rattle.exponential.specs.Series.{factorial, term, S}
-use Rattle.exponential.specs.Table.{table, Enclosed}
-use Rattle.exponential.specs.Lower.{entry}
+use Rattle.exponential.specs.program.Table.{table, Enclosed}
+use Rattle.exponential.specs.program.Lower.{entry}
 use Rattle.exponential.proofs.Terms.{terms, terms-are}
 use Rattle.exponential.proofs.Weighted.{wsum, weighted-bound, sum-at-most}
 use Rattle.exponential.proofs.SeriesLaws.{S-one}

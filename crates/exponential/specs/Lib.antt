@@ -1,3 +1,2 @@
 pub mod Series
-pub mod Table
-pub mod Lower
+pub mod program

@@ -1,8 +1,8 @@
 // 2^40·e^(-q) from below, from a table of its values at every 64th and a fraction of two short polynomials between them.
 ghost use mathlib.Core.Path.{_≡_};
 ghost use Prim.Native.Nat.{_*_, _^_, _<_, _≤_};
-ghost use Rattle.exponential.specs.Table.{table};
-ghost use Rattle.exponential.specs.Lower.{denominator, lower};
+ghost use Rattle.exponential.specs.program.Table.{table};
+ghost use Rattle.exponential.specs.program.Lower.{denominator, lower};
 
 pub mod table;
 

@@ -1,25 +1,51 @@
 // Of two strake lists the one that governs a bin with two products. Document 01, "Answer list".
 ghost use mathlib.Core.Path.{_≡_};
-ghost use Prim.Native.Nat.{_≤_, _<_};
-ghost use lib.ListN.{length};
-ghost use Rattle.governing.specs.Strakes.{last, governing-of};
+ghost use Rattle.governing.specs.Strakes.{governs, governs-number, Handed};
 
-// The list with the greater last number, the first when equal, as the caller's own slice; an empty part of the first if
-// the lengths differ or are 0.
-pub fn governing<'a>(first: &'a [u32], second: &'a [u32]) -> &'a [u32]
-    ensures list { λ r. ⌜ now r ≡ governing-of (now (first .entry)) (now (second .entry)) ⌝ }
-    ensures first { λ r. ⌜ (length (now (first .entry)) ≡ length (now (second .entry)) → 0 < length (now (first .entry)) → last (now (second .entry)) ≤ last (now (first .entry)) → r ≡ first .entry) ⌝ }
-    ensures second { λ r. ⌜ (length (now (first .entry)) ≡ length (now (second .entry)) → 0 < length (now (first .entry)) → last (now (first .entry)) < last (now (second .entry)) → r ≡ second .entry) ⌝ }
+// Which of two strake lists governs.
+pub enum Governs {
+    Neither,
+    First,
+    Second,
+}
+
+// The one with the greater last number, the first when equal; neither if the lengths differ or are 0.
+pub fn which(first: &[u32], second: &[u32]) -> Governs
+    ensures { λ r. ⌜ r ≡ governs (now (first .entry)) (now (second .entry)) ⌝ }
 {
     let n = first.len();
     if n != second.len() {
-        return &first[..0];
+        return Governs::Neither;
     }
     if n == 0 {
-        return &first[..0];
+        return Governs::Neither;
     }
     if first[n - 1] < second[n - 1] {
-        return second;
+        return Governs::Second;
     }
-    first
+    Governs::First
+}
+
+impl Governs {
+    // The number of an answer: 0 neither, 1 the first, 2 the second.
+    pub fn number(self) -> u32
+        ensures { λ r. ⌜ r ≡ governs-number self ⌝ }
+    {
+        match self {
+            Governs::Neither => 0,
+            Governs::First => 1,
+            Governs::Second => 2,
+        }
+    }
+}
+
+// The list that governs, as the caller's own slice; an empty part of the first where neither does.
+pub fn governing<'a>(first: &'a [u32], second: &'a [u32]) -> &'a [u32]
+    ensures { λ r. ⌜ Handed (governs (now (first .entry)) (now (second .entry))) (first .entry) (second .entry) r ⌝ }
+{
+    match which(first, second) {
+        Governs::Neither => &first[..0],
+        Governs::First => first,
+        Governs::Second => second,
+    }
 }

@@ -11,11 +11,11 @@ use Rattle.fraction.proofs.Up.{up-lt, up-le, up-mono, up-above, up-nest}
 use Rattle.janssen.specs.declared.Section.{Section}
 use Rattle.janssen.specs.declared.Product.{Product}
 use Rattle.janssen.specs.Section.{R, side-a, side-b}
-use Rattle.janssen.specs.Range.{InRange}
+use Rattle.janssen.specs.program.Range.{InRange}
 use Rattle.allowance.specs.Allowance.{Allowance}
 use Rattle.allowance.proofs.LowerLaws.{Filled}
 use Rattle.allowance.proofs.Rounding.{up-same, wholes}
-use Rattle.hopper.specs.Hopper.{base, squared, share, hopper-normal, hopper-friction, B, n3, p-n, p-t, Low, LowerHopper}
+use Rattle.hopper.specs.Hopper.{base, squared, share, hopper-normal, hopper-friction, B, n3, P-n, P-t, Low, LowerHopper}
 use Rattle.hopper.proofs.Root.{root-above, root-near}
 
 -- the share of p_vf is proper and at most 1.2
@@ -102,9 +102,9 @@ base-answer s p H r a b x range hr ea eb e =
     let same : x ≡ B s p H r = (rw (← ea, ← eb) at e) ∙ base-divided s p H r (omega (arith, range .a-in .least)) hr in
     (same, omega (arith, B-range s p H r range hr))
 
-pub p-n-range : (H r k n p : ℕ) → 0 < r → k ≤ 4 → n ≤ 10350000 → p < 2 ^ 25 → p-n H r k n p ≤ 2 ^ 26
-unfolding p-n
-p-n-range H r k n p hr hk hn hp =
+pub P-n-range : (H r k n p : ℕ) → 0 < r → k ≤ 4 → n ≤ 10350000 → p < 2 ^ 25 → P-n H r k n p ≤ 2 ^ 26
+unfolding P-n
+P-n-range H r k n p hr hk hn hp =
     let g : Fraction = share H r k in
     let most : p ≤ 2 ^ 25 = omega arith in
     omega (
@@ -118,14 +118,14 @@ p-n-range H r k n p hr hk hn hp =
     )
 
 -- P_n as the program divides
-pub p-n-divided :
+pub P-n-divided :
     (H r k n p rise across : ℕ) →
     rise ≡ H * H →
     across ≡ r * r →
     0 < r →
-    n + up ((p * (24 * across + 5 * k * rise)) ⊘ (20 * (rise + across))) ≡ p-n H r k n p
-unfolding p-n
-p-n-divided H r k n p rise across eh er hr =
+    n + up ((p * (24 * across + 5 * k * rise)) ⊘ (20 * (rise + across))) ≡ P-n H r k n p
+unfolding P-n
+P-n-divided H r k n p rise across eh er hr =
     let t : 0 < H * H + r * r = squares-pos H r hr in
     rw (eh, er)
     (ap (λ (x : ℕ). n + x)
@@ -138,22 +138,22 @@ p-n-divided H r k n p rise across eh er hr =
     (omega (arith, share-proper H r k hr))
     (omega arith)))
 
-pub p-t-range : (μ n : ℕ) → μ ≤ 100 → n ≤ 2 ^ 26 → p-t μ n ≤ 2 ^ 27
-unfolding p-t
-p-t-range μ n hm hn = up-le (n * 115 * μ) 10000 (2 ^ 27) (omega arith) (omega (arith, mul-le-mul-left n hm))
+pub P-t-range : (μ n : ℕ) → μ ≤ 100 → n ≤ 2 ^ 26 → P-t μ n ≤ 2 ^ 27
+unfolding P-t
+P-t-range μ n hm hn = up-le (n * 115 * μ) 10000 (2 ^ 27) (omega arith) (omega (arith, mul-le-mul-left n hm))
 
 -- never falling
-pub p-n-mono : (H r k n : ℕ) {p p' : ℕ} → 0 < r → p ≤ p' → p-n H r k n p ≤ p-n H r k n p'
-unfolding p-n
-p-n-mono H r k n hr h =
+pub P-n-mono : (H r k n : ℕ) {p p' : ℕ} → 0 < r → p ≤ p' → P-n H r k n p ≤ P-n H r k n p'
+unfolding P-n
+P-n-mono H r k n hr h =
     omega (arith, up-mono (⊗-mono (wholes h) (⪯-refl (share H r k) (share-proper H r k hr))))
 
 friction-order : (μ : ℕ) {v w : Fraction} → v ⪯ w → hopper-friction μ v ⪯ hopper-friction μ w
 friction-order μ h = ⊗-mono (⊗-mono h (⪯-refl (115 ⊘ 100) (omega arith))) (⪯-refl (μ ⊘ 100) (omega arith))
 
-pub p-t-mono : (μ : ℕ) {n n' : ℕ} → n ≤ n' → p-t μ n ≤ p-t μ n'
-unfolding p-t
-p-t-mono μ h = up-mono (friction-order μ (wholes h))
+pub P-t-mono : (μ : ℕ) {n n' : ℕ} → n ≤ n' → P-t μ n ≤ P-t μ n'
+unfolding P-t
+P-t-mono μ h = up-mono (friction-order μ (wholes h))
 
 -- P_n and P_t from above
 pn-above :
@@ -161,8 +161,8 @@ pn-above :
     0 < r →
     v ⪯ whole p →
     u ⪯ whole n →
-    hopper-normal H r k v u ⪯ whole (p-n H r k n p)
-unfolding p-n
+    hopper-normal H r k v u ⪯ whole (P-n H r k n p)
+unfolding P-n
 pn-above H r k n p v u hr hv hu =
     let g : Fraction = share H r k in
     let x : Fraction = whole p ⊗ g in
@@ -171,8 +171,8 @@ pn-above H r k n p v u hr hv hu =
     let sum : whole n ⊕ whole (up x) ⪯ whole (n + up x) = record { left = omega arith; right = omega arith; order = omega arith } in
     ⪯-trans (⊕-mono hu rounded) sum
 
-pt-above : (μ n : ℕ) (v : Fraction) → v ⪯ whole n → hopper-friction μ v ⪯ whole (p-t μ n)
-unfolding p-t
+pt-above : (μ n : ℕ) (v : Fraction) → v ⪯ whole n → hopper-friction μ v ⪯ whole (P-t μ n)
+unfolding P-t
 pt-above μ n v h = ⪯-trans (friction-order μ h) (up-above (hopper-friction μ (whole n)) (omega arith))
 
 -- what P_n loses in all: 116/15
@@ -181,9 +181,9 @@ pn-loss :
     0 < r →
     k ≤ 4 →
     p ≤ v + 2 →
-    15 * share H r k .bottom * p-n H r k n p <
+    15 * share H r k .bottom * P-n H r k n p <
     5 * ((3 * n - 13) * share H r k .bottom) + 15 * (v * share H r k .top) + 116 * share H r k .bottom
-unfolding p-n
+unfolding P-n
 pn-loss H r k n p v hr hk hp = lost (share H r k .top) (share H r k .bottom) (share-proper H r k hr) (share-most H r k hk)
   where
     lost :
@@ -200,9 +200,9 @@ pn-near :
     0 < r →
     k ≤ 4 →
     p ≤ v + 2 →
-    whole (p-n H r k n p) ≺ hopper-normal H r k (whole v) ((3 * n - 13) ⊘ 3) ⊕ whole 8
+    whole (P-n H r k n p) ≺ hopper-normal H r k (whole v) ((3 * n - 13) ⊘ 3) ⊕ whole 8
 pn-near H r k n p v hr hk hp =
-    sized (share H r k .top) (share H r k .bottom) (p-n H r k n p) (share-proper H r k hr) (pn-loss H r k n p v hr hk hp)
+    sized (share H r k .top) (share H r k .bottom) (P-n H r k n p) (share-proper H r k hr) (pn-loss H r k n p v hr hk hp)
   where
     sized :
         (t b x : ℕ) →
@@ -217,10 +217,10 @@ pt-near :
     0 < r →
     k ≤ 4 →
     p ≤ v + 2 →
-    whole (p-t μ (p-n H r k n p)) ≺ hopper-friction μ (hopper-normal H r k (whole v) ((3 * n - 13) ⊘ 3)) ⊕ whole 10
-unfolding p-t
+    whole (P-t μ (P-n H r k n p)) ≺ hopper-friction μ (hopper-normal H r k (whole v) ((3 * n - 13) ⊘ 3)) ⊕ whole 10
+unfolding P-t
 pt-near μ H r k n p v hm hr hk hp =
-    sized (share H r k .top) (share H r k .bottom) (p-n H r k n p) (share-proper H r k hr) (pn-loss H r k n p v hr hk hp)
+    sized (share H r k .top) (share H r k .bottom) (P-n H r k n p) (share-proper H r k hr) (pn-loss H r k n p v hr hk hp)
   where
     sized :
         (t b x : ℕ) →
@@ -268,23 +268,23 @@ module _
         (up-above (base s p H r) (base-proper s p H r range hr))
         h
 
-    pub p-n-allowance :
+    pub P-n-allowance :
         Allowance (LowerHopper P q (p .friction) (base s p H r)) (λ l. hopper-normal H r k (l .v) (l .u)) 8
-        (p-n H r k (n3 (p .friction) (B s p H r)) x)
+        (P-n H r k (n3 (p .friction) (B s p H r)) x)
     unfolding lowest
-    p-n-allowance = record {
+    P-n-allowance = record {
       at-or-above = λ l low. pn-above H r k _ x (l .v) (l .u) hr (fill .over (l .v) (low .pressure)) (n3-above (l .u) (low .root));
       less-above = (lowest, lowest-lower, pn-near H r k (n3 (p .friction) (B s p H r)) x (x - 2) hr hk (omega arith));
     }
 
-    pub p-t-allowance :
+    pub P-t-allowance :
         Allowance (LowerHopper P q (p .friction) (base s p H r)) (λ l. hopper-friction (p .friction) (hopper-normal H r k (l .v) (l .u)))
-        10 (p-t (p .friction) (p-n H r k (n3 (p .friction) (B s p H r)) x))
+        10 (P-t (p .friction) (P-n H r k (n3 (p .friction) (B s p H r)) x))
     unfolding lowest
-    p-t-allowance = record {
+    P-t-allowance = record {
       at-or-above =
           λ l low.
-          pt-above (p .friction) _ _ (p-n-allowance .at-or-above l low);
+          pt-above (p .friction) _ _ (P-n-allowance .at-or-above l low);
       less-above =
           let n : ℕ = n3 (p .friction) (B s p H r) in
           (lowest, lowest-lower, pt-near (p .friction) H r k n x (x - 2) (range .μ-in .most) hr hk (omega arith));

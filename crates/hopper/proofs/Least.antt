@@ -1,10 +1,10 @@
 -- The least number that passes a test. By induction on the bound: nothing below the answer passes, and the answer passes or is the bound.
 use Prim.Native.Nat.{ℕ, zero, suc, _≤_, _<_}
 use mathlib.Core.Path.{_≡_, refl, sym, _∙_}
-use mathlib.Core.Bool.{Bool, true, false, true≢false}
+use mathlib.Core.Bool.{Bool, true, false, cond, true≢false}
 use native.Mathlib.Omega.{arith}
 use native.Mathlib.Decide.{decLt}
-use Rattle.hopper.specs.Least.{keep, least}
+use Rattle.hopper.specs.Least.{least}
 
 pub record Found (test : ℕ → Bool) (bound n : ℕ) : Type 0 where
   pub within : n ≤ bound
@@ -19,7 +19,7 @@ below-next test n m h e less = at (decLt m n)
     at (yes l) = h m l
     at (no l) = let same : m ≡ n = omega arith in rw same e
 
-step : (test : ℕ → Bool) (bound n : ℕ) (b : Bool) → test n ≡ b → Found test bound n → Found test (suc bound) (keep b n (suc bound))
+step : (test : ℕ → Bool) (bound n : ℕ) (b : Bool) → test n ≡ b → Found test bound n → Found test (suc bound) (cond b n (suc bound))
 step test bound n true e f = record {
   within = omega (arith, f .within);
   none-below = f .none-below;

@@ -51,12 +51,12 @@ unfoldable pub n3 : ℕ → ℕ → ℕ
 n3 μ b = least (λ n. at-most (whole b ⊗ whole b) (squared μ (whole n))) (4 * b)
 
 -- P_n = n3 + up(p_vf(V)·(1.2·cos²α + sin²α·k/4))
-unfoldable pub p-n : ℕ → ℕ → ℕ → ℕ → ℕ → ℕ
-p-n H r k n p = n + up (whole p ⊗ share H r k)
+unfoldable pub P-n : ℕ → ℕ → ℕ → ℕ → ℕ → ℕ
+P-n H r k n p = n + up (whole p ⊗ share H r k)
 
 -- P_t = up(P_n·1.15·μ)
-unfoldable pub p-t : ℕ → ℕ → ℕ
-p-t μ n = up (hopper-friction μ (whole n))
+unfoldable pub P-t : ℕ → ℕ → ℕ
+P-t μ n = up (hopper-friction μ (whole n))
 
 -- what the hopper's formulas are filled with: v for p_vf(V), u for n3
 pub record Low : Type 0 where

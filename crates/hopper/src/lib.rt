@@ -2,8 +2,8 @@
 ghost use mathlib.Core.Path.{_≡_};
 ghost use Prim.Native.Nat.{_+_, _*_, _^_, _<_, _≤_};
 ghost use Rattle.fraction.specs.Fraction.{_⊘_, up};
-ghost use Rattle.janssen.specs.Range.{InRange};
-ghost use Rattle.hopper.specs.Hopper.{B, n3, p-n, p-t};
+ghost use Rattle.janssen.specs.program.Range.{InRange};
+ghost use Rattle.hopper.specs.Hopper.{B, n3, P-n, P-t};
 use fraction::Quotient;
 use janssen::Pascals;
 use janssen::Product;
@@ -84,7 +84,7 @@ pub fn hopper_filling(friction: u64, base: u64) -> u64
 // P_n from n3 and p_vf at the wall's foot, k quarters of the slope up from the outlet.
 pub fn hopper_normal(height: u64, run: u64, k: u64, filling: u64, vertical: Pascals) -> Pascals
     requires { ⌜ (height ≤ 25000) × (0 < run) × (run ≤ 25000) × (k ≤ 4) × (filling ≤ 10350000) × (vertical .0 < 2 ^ 25) ⌝ }
-    ensures { λ r. ⌜ (r .0 ≡ p-n height run k filling (vertical .0)) × (r .0 ≤ 2 ^ 26) ⌝ }
+    ensures { λ r. ⌜ (r .0 ≡ P-n height run k filling (vertical .0)) × (r .0 ≤ 2 ^ 26) ⌝ }
 {
     let rise = square(height);
     let across = square(run);
@@ -96,7 +96,7 @@ pub fn hopper_normal(height: u64, run: u64, k: u64, filling: u64, vertical: Pasc
 // P_t from the mean μ, hundredths, and P_n.
 pub fn hopper_friction(friction: u64, normal: Pascals) -> Pascals
     requires { ⌜ (friction ≤ 100) × (normal .0 ≤ 2 ^ 26) ⌝ }
-    ensures { λ r. ⌜ r .0 ≡ p-t friction (normal .0) ⌝ }
+    ensures { λ r. ⌜ r .0 ≡ P-t friction (normal .0) ⌝ }
 {
     Pascals(fraction::quotient_up(normal.0 as u64 * 115 * friction, 10000) as u32)
 }

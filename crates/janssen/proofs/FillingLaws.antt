@@ -9,7 +9,7 @@ use Rattle.fraction.specs.Fraction.{Fraction, _⊘_, whole, _⪯_, up}
 use Rattle.fraction.proofs.Order.{compare, ⪯-refl, ⪯-trans, ⊕-mono, ⊗-mono}
 use Rattle.fraction.proofs.Up.{up-ge, up-lt, up-le, up-mono, up-zero}
 use Rattle.exponential.specs.Series.{S, Below, Reaches}
-use Rattle.exponential.specs.Lower.{lower}
+use Rattle.exponential.specs.program.Lower.{lower}
 use Rattle.exponential.proofs.Terms.{S-positive}
 use Rattle.exponential.proofs.LowerLaws.{lower-below, lower-reaches, lower-falls, lower-zero, lower-le, below-anti}
 use Rattle.janssen.specs.declared.Section.{Section}
@@ -18,8 +18,8 @@ use Rattle.janssen.specs.Section.{R}
 use Rattle.janssen.specs.Filling.{Kind, factors, q, z0, P, γR, Ks, μ}
 use Rattle.janssen.specs.Filling.Kind.{horizontal, vertical, wall-friction}
 use Rattle.janssen.specs.Band.{FillingBand}
-use Rattle.janssen.specs.Range.{InRange, InDepth}
-use Rattle.janssen.specs.Pressure.{step, limit, decay, pressure, filling}
+use Rattle.janssen.specs.program.Range.{InRange, InDepth}
+use Rattle.janssen.specs.program.Pressure.{step, limit, decay, pressure, filling}
 use Rattle.janssen.proofs.Rounding.{rounded-above, rounded-close}
 use Rattle.janssen.proofs.Geometry.{q-bottom, q-top, q-bottom-pos, q-pos, q-is, q-small, P-pos, P-small, P-most, most, R-pos}
 use Rattle.janssen.proofs.Argument.{argument-above, argument-close, argument-small, argument-rises}

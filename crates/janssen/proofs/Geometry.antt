@@ -9,7 +9,7 @@ use Rattle.janssen.specs.declared.Product.{Product}
 use Rattle.janssen.specs.Section.{side-a, side-b, d-c, R}
 use Rattle.janssen.specs.Filling.{Kind, factors, wall-load-factors, Ks, μ, z0, q, γR, P}
 use Rattle.janssen.specs.Filling.Kind.{horizontal, vertical, wall-friction}
-use Rattle.janssen.specs.Range.{InRange, InDepth}
+use Rattle.janssen.specs.program.Range.{InRange, InDepth}
 
 -- the product of a row's two factors, in 25/10,000: 1.15·0.9, 0.9², 1.15²
 abbrev pub row : Kind → ℕ
@@ -183,3 +183,19 @@ module _ (s : Section) (p : Product) (i : InRange s p) where
   -- z0 is below 2^25 mm
   pub z0-small : q-bottom s * 2048 ^ 1 < 2 ^ 36 * q-top wall-friction s p
   z0-small = omega (arith, a-pos, sides-most, sides-least)
+
+  -- q for each mm of P_w's row is between 2.116·10^-6 and 0.01058
+  pub q-least : 2116 * q-bottom s ≤ 1000000000 * q-top wall-friction s p
+  q-least = omega (arith, sides-most, sides-least)
+
+  pub q-most : 100000 * q-top wall-friction s p ≤ 1058 * q-bottom s
+  q-most =
+      omega (
+        arith,
+        mul-le-mul-right (side-a s + side-b s) (mul-le-mul (i .Ks-in .most) (i .μ-in .most)),
+        mul-le-mul-left (side-a s) (i .b-in .least),
+        mul-le-mul-right (side-b s) (i .a-in .least),
+      )
+
+  pub γR-top-pos : 0 < P-top wall-friction s p
+  γR-top-pos = omega (arith, mul-pos {m = p .weight} (omega (arith, i .γ-in .least)) ab-pos)

@@ -7,3 +7,4 @@ pub mod WallLoadRounding
 pub mod WallLoadLaws
 pub mod PreparedNumbers
 pub mod Ready
+pub mod WallLoadOrder

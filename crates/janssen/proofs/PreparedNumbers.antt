@@ -12,9 +12,9 @@ use Rattle.janssen.specs.declared.Prepared.{Prepared}
 use Rattle.janssen.specs.Section.{side-a, side-b}
 use Rattle.janssen.specs.Filling.{Kind, factors, wall-load-factors, q, z0, P}
 use Rattle.janssen.specs.Filling.Kind.{horizontal, vertical, wall-friction}
-use Rattle.janssen.specs.Range.{Within, InRange}
-use Rattle.janssen.specs.Pressure.{step, limit, z0-scaled}
-use Rattle.janssen.specs.Prepare.{prepared-for}
+use Rattle.janssen.specs.program.Range.{Within, InRange}
+use Rattle.janssen.specs.program.Pressure.{step, limit, z0-scaled}
+use Rattle.janssen.specs.program.Prepare.{prepared-for}
 use Rattle.janssen.proofs.Geometry.{q-top, q-bottom, q-bottom-pos, q-pos, q-is, P-top, P-bottom, P-bottom-pos, P-pos, P-is, z0-pos, z0-is, q-top-pos}
 
 up-equal : (a b c d : ℕ) → 0 < b → 0 < d → a * d ≡ c * b → up (a ⊘ b) ≡ up (c ⊘ d)

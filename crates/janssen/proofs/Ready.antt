@@ -12,9 +12,9 @@ use Rattle.janssen.specs.declared.Curve.{Curve}
 use Rattle.janssen.specs.declared.Prepared.{Prepared}
 use Rattle.janssen.specs.Filling.{Kind, factors}
 use Rattle.janssen.specs.Filling.Kind.{wall-friction}
-use Rattle.janssen.specs.Range.{InRange, InDepth}
-use Rattle.janssen.specs.Pressure.{step, limit, decay, pressure, filling, z0-scaled, loaded-depth, load, wall-load}
-use Rattle.janssen.specs.Prepare.{curve, prepared-for}
+use Rattle.janssen.specs.program.Range.{InRange, InDepth}
+use Rattle.janssen.specs.program.Pressure.{step, limit, decay, pressure, filling, z0-scaled, loaded-depth, load, wall-load}
+use Rattle.janssen.specs.program.Prepare.{curve, prepared-for}
 use Rattle.janssen.proofs.Geometry.{q-top-pos, most-small, z0-small}
 use Rattle.janssen.proofs.FillingLaws.{Q-small, limit-most}
 use Rattle.janssen.proofs.PreparedNumbers.{z0-scaled-is}

@@ -17,8 +17,8 @@ use Rattle.janssen.specs.Section.{metres}
 use Rattle.janssen.specs.Filling.{Kind, wall-load-factors, q, z0, P, γR, D, N}
 use Rattle.janssen.specs.Filling.Kind.{wall-friction}
 use Rattle.janssen.specs.Band.{WallLoadBand}
-use Rattle.janssen.specs.Range.{InRange, InDepth}
-use Rattle.janssen.specs.Pressure.{step, limit, decay, z0-scaled, loaded-depth, load, wall-load}
+use Rattle.janssen.specs.program.Range.{InRange, InDepth}
+use Rattle.janssen.specs.program.Pressure.{step, limit, decay, z0-scaled, loaded-depth, load, wall-load}
 use Rattle.janssen.proofs.Geometry.{q-pos, γR-pos, γR-most, z0-pos, D-most}
 use Rattle.janssen.proofs.Growth.{S-growth}
 use Rattle.janssen.proofs.FillingLaws.{decay-below, decay-reaches, decay-most, limit-most}

@@ -1,6 +1,5 @@
 pub mod Section
 pub mod Filling
+pub mod Numbers
 pub mod Band
-pub mod Range
-pub mod Pressure
-pub mod Prepare
+pub mod program

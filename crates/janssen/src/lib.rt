@@ -2,12 +2,12 @@
 ghost use mathlib.Core.Path.{_≡_};
 ghost use Prim.Native.Nat.{_+_, _*_, _/_, _^_, _<_, _≤_};
 ghost use Rattle.fraction.specs.Fraction.{_⊘_, up};
-ghost use Rattle.exponential.specs.Table.{table};
+ghost use Rattle.exponential.specs.program.Table.{table};
 ghost use Rattle.janssen.specs.Section.{side-a, side-b, d-c};
-ghost use Rattle.janssen.specs.Range.{Within, InRange, InDepth};
+ghost use Rattle.janssen.specs.program.Range.{Within, InRange, InDepth};
 ghost use Rattle.janssen.specs.Filling.{Kind};
-ghost use Rattle.janssen.specs.Pressure.{decay, pressure, filling, loaded-depth, load};
-ghost use Rattle.janssen.specs.Prepare.{curve, prepared-for, filling-loads};
+ghost use Rattle.janssen.specs.program.Pressure.{decay, pressure, filling, loaded-depth, load};
+ghost use Rattle.janssen.specs.program.Prepare.{curve, prepared-for, filling-loads};
 
 // The cross-section, mm.
 pub enum Section {

@@ -1,9 +1,1 @@
-pub mod Places
-pub mod SameRecords
-pub mod Stores
-pub mod Demand
-pub mod Edges
-pub mod Depths
-pub mod Whole
-pub mod Call
-pub mod Across
+pub mod RowLaws

@@ -1,2 +1,3 @@
-pub mod Answers
-pub mod Claim
+pub mod Load
+pub mod Holds
+pub mod program

@@ -1,6 +1,6 @@
 -- The records of a sheet: what a due kind is, and the first refusal among the records left.
 use Prim.Native.Nat.{ℕ, zero, suc, _+_, _-_, _≤_, _<_}
-use mathlib.Core.Bool.{true}
+use mathlib.Core.Bool.{true, _&&_}
 use mathlib.Core.List.{List}
 use mathlib.Core.Logic.{_⊎_, inl, inr, ⊎-elim}
 use mathlib.Core.Path.{_≡_, refl, sym}
@@ -9,7 +9,7 @@ use native.Mathlib.Omega.{arith}
 use borrow.Author.Tests.{eqb-true}
 use lib.Dec.{eqb}
 use lib.ListN.{length}
-use Rattle.records.specs.Rules.{both, must}
+use Rattle.records.specs.Rules.{must}
 use Rattle.records.specs.Format.{u16, place, payload, payload-length, due, step-of, record-rule, records-rule}
 use Rattle.records.proofs.Tests.{both-true, either-true, orElse-stop}
 
@@ -30,7 +30,7 @@ unfolding due
 due-cases k t h =
     ⊎-elim (λ p. inl (eqb-true t (k + 2) p))
     (λ p. let q = both-true (eqb k 0) (eqb t 1) p in inr (eqb-true k 0 (q .0), eqb-true t 1 (q .1)))
-    (either-true (eqb t (k + 2)) (both (eqb k 0) (eqb t 1)) h)
+    (either-true (eqb t (k + 2)) (eqb k 0 && eqb t 1) h)
 
 pub due-range : (k t : ℕ) → k < 6 → due k t ≡ true → (0 < t) × (t < 8)
 due-range k t l h = ⊎-elim (λ p. omega arith) (λ p. omega arith) (due-cases k t h)

@@ -1,12 +1,12 @@
 -- Rules that hold, and tests that are true, taken apart and put together.
 use Prim.Native.Nat.{ℕ, zero, suc, _≤_}
-use mathlib.Core.Bool.{Bool, true, false}
+use mathlib.Core.Bool.{Bool, true, false, _&&_, _||_}
 use mathlib.Core.Logic.{_⊎_, inl, inr}
 use mathlib.Core.Path.{_≡_, refl}
 use native.Mathlib.Omega.{arith}
 use borrow.Author.Tests.{leb-true, le-leb}
 use lib.Dec.{leb}
-use Rattle.records.specs.Rules.{both, either, within, must, orElse}
+use Rattle.records.specs.Rules.{within, must, orElse}
 
 pub absurd : {A : Type 0} → ⊥ → A
 absurd x = elim x [ ]
@@ -14,16 +14,16 @@ absurd x = elim x [ ]
 pub false-true : false ≡ true → ⊥
 false-true h = let z : _≡_ {A = ℕ} 0 1 = cc in omega arith
 
-pub both-true : (a b : Bool) → both a b ≡ true → (a ≡ true) × (b ≡ true)
+pub both-true : (a b : Bool) → (a && b) ≡ true → (a ≡ true) × (b ≡ true)
 both-true true b h = (refl, h)
 both-true false b h = absurd (false-true h)
 
-pub either-true : (a b : Bool) → either a b ≡ true → (a ≡ true) ⊎ (b ≡ true)
+pub either-true : (a b : Bool) → (a || b) ≡ true → (a ≡ true) ⊎ (b ≡ true)
 either-true true b h = inl refl
 either-true false b h = inr h
 
 -- a test that holds by its second half
-pub either-right : (a b : Bool) → b ≡ true → either a b ≡ true
+pub either-right : (a b : Bool) → b ≡ true → (a || b) ≡ true
 either-right true b h = refl
 either-right false b h = h
 

@@ -1,10 +1,10 @@
 -- The sheet's bytes: little-endian numbers and six records. Document 01, "Sheet".
 use Prim.Native.Nat.{ℕ, zero, suc, _+_, _*_, _%_}
 use mathlib.Core.List.{List, [], _∷_}
-use mathlib.Core.Bool.{Bool}
+use mathlib.Core.Bool.{Bool, _&&_, _||_}
 use lib.ListN.{length, getD}
 use lib.Dec.{leb, eqb}
-use Rattle.records.specs.Rules.{both, either, within, must, orElse, firstOf}
+use Rattle.records.specs.Rules.{within, must, orElse, firstOf}
 
 -- a little-endian number at a place; what lies past the end is 0
 unfoldable pub u16 : List ℕ → ℕ → ℕ
@@ -34,7 +34,7 @@ payload s k = place s k + 4
 
 -- the kind due: k + 2; the section's is 1 or 2
 unfoldable pub due : ℕ → ℕ → Bool
-due k t = either (eqb t (k + 2)) (both (eqb k 0) (eqb t 1))
+due k t = eqb t (k + 2) || (eqb k 0 && eqb t 1)
 
 -- by kind, 1 to 7: a payload is of step, 2 step, .. up to most bytes; 1 to 24 strakes of 2, 1 to 200 depths of 4
 abbrev pub step-of : ℕ → ℕ
@@ -45,7 +45,7 @@ most-of t = getD (0 ∷ 4 ∷ 8 ∷ 10 ∷ 8 ∷ 8 ∷ 48 ∷ 800 ∷ []) t 0
 
 -- the payload lengths that a kind allows
 unfoldable pub allowed : ℕ → ℕ → Bool
-allowed t n = both (within (step-of t) (most-of t) n) (eqb (n % step-of t) 0)
+allowed t n = within (step-of t) (most-of t) n && eqb (n % step-of t) 0
 
 -- record k, which begins at a place: header present, kind due, length allowed, payload present
 unfoldable pub record-rule : List ℕ → ℕ → ℕ → ℕ

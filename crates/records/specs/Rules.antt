@@ -1,25 +1,12 @@
 -- Rules as numbers: a rule is 0 where it holds, else the refusal's number of document 01, "Who can be refused".
 use Prim.Native.Nat.{ℕ, zero, suc}
 use mathlib.Core.List.{List, [], _∷_}
-use mathlib.Core.Bool.{Bool, true, false}
+use mathlib.Core.Bool.{Bool, true, false, _&&_}
 use lib.Dec.{leb}
-
-abbrev pub both : Bool → Bool → Bool
-both true b = b
-both false b = false
-
-abbrev pub either : Bool → Bool → Bool
-either true b = true
-either false b = b
 
 -- low ≤ x ≤ high
 abbrev pub within : ℕ → ℕ → ℕ → Bool
-within low high x = both (leb low x) (leb x high)
-
--- the number chosen by a test
-abbrev pub pick : Bool → ℕ → ℕ → ℕ
-pick true a b = a
-pick false a b = b
+within low high x = leb low x && leb x high
 
 -- the refusal where the test fails
 abbrev pub must : Bool → ℕ → ℕ

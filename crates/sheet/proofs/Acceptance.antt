@@ -1,7 +1,7 @@
 -- A sheet is not refused exactly when it is `Accepted`: the first refusal is 0 when each rule is, and each rule's tests
 -- are the inequalities of `Accepted`.
 use Prim.Native.Nat.{ℕ, _*_, _≤_}
-use mathlib.Core.Bool.{true}
+use mathlib.Core.Bool.{true, _&&_, _||_}
 use mathlib.Core.List.{List}
 use mathlib.Core.Logic.{_⊎_, inl, inr, ⊎-elim}
 use mathlib.Core.Path.{_≡_, ap}
@@ -14,7 +14,7 @@ use Rattle.janssen.specs.declared.Product.{Product}
 use Rattle.janssen.specs.Section.{side-a, side-b, d-c}
 use Rattle.description.specs.declared.Eccentricities.{Eccentricities}
 use Rattle.description.specs.declared.Bottom.{Bottom}
-use Rattle.records.specs.Rules.{both, either, within, must}
+use Rattle.records.specs.Rules.{within, must}
 use Rattle.records.specs.Format.{u32, layout-rule}
 use Rattle.description.specs.Silo.{section-of, product-sent, eccentricities-of, bottom-of, strakes-of, depths-of, depth-count, V-of, h-of}
 use Rattle.sheet.specs.Refusal.{sides-rule, product-rule, eccentricities-rule, flat, hopper, bottom-rule, strakes-within, strakes-rule, rising, depths-rule, shape-rule, values-rule, refusal-of}
@@ -48,7 +48,7 @@ bottom-of-rule dc b h =
     ⊎-elim
     (λ f. let p = both-true (eqb (b .height) 0) (eqb (b .run) 0) f in inl (eqb-true (b .height) 0 (p .0), eqb-true (b .run) 0 (p .1)))
     (λ f. inr (hopper-of dc b f))
-    (either-true (flat b) (hopper dc b) (must-true (either (flat b) (hopper dc b)) 8 h))
+    (either-true (flat b) (hopper dc b) (must-true (flat b || hopper dc b) 8 h))
 
 rule-of-bottom : (dc : ℕ) (b : Bottom) → ((b .height ≡ 0) × (b .run ≡ 0)) ⊎ Hopper dc b → bottom-rule dc b ≡ 0
 unfolding bottom-rule flat hopper
@@ -66,10 +66,10 @@ rule-of-bottom dc b x =
     ap (λ t. must t 9) (either-right (flat b) (hopper dc b) e))
     x
 
-factor-of : (c : ℕ) → either (eqb c 0) (within 100 200 c) ≡ true → (c ≡ 0) ⊎ ((100 ≤ c) × (c ≤ 200))
+factor-of : (c : ℕ) → (eqb c 0 || within 100 200 c) ≡ true → (c ≡ 0) ⊎ ((100 ≤ c) × (c ≤ 200))
 factor-of c h = ⊎-elim (λ e. inl (eqb-true c 0 e)) (λ e. inr (within-true 100 200 c e)) (either-true (eqb c 0) (within 100 200 c) h)
 
-of-factor : (c : ℕ) → (c ≡ 0) ⊎ ((100 ≤ c) × (c ≤ 200)) → either (eqb c 0) (within 100 200 c) ≡ true
+of-factor : (c : ℕ) → (c ≡ 0) ⊎ ((100 ≤ c) × (c ≤ 200)) → (eqb c 0 || within 100 200 c) ≡ true
 of-factor c x =
     ⊎-elim (λ e. simp (eq-eqb c 0 e))
     (λ p. either-right (eqb c 0) (within 100 200 c) (true-within 100 200 c (p .0) (p .1)))
@@ -79,17 +79,17 @@ module _ (c : Section) (p : Product) (e : Eccentricities) (b : Bottom) where
   pub values-of : sides-rule c ≡ 0 → product-rule p ≡ 0 → eccentricities-rule (d-c c) e ≡ 0 → bottom-rule (d-c c) b ≡ 0 → Values c p e b
   unfolding sides-rule product-rule eccentricities-rule
   values-of hs hp he hb =
-      let t = both-true (within 500 50000 (side-a c)) (within 500 50000 (side-b c)) (must-true (both (within 500 50000 (side-a c)) (within 500 50000 (side-b c))) 5 hs) in
+      let t = both-true (within 500 50000 (side-a c)) (within 500 50000 (side-b c)) (must-true (within 500 50000 (side-a c) && within 500 50000 (side-b c)) 5 hs) in
       let a = within-true 500 50000 (side-a c) (t .0) in
       let w = within-true 500 50000 (side-b c) (t .1) in
       let p1 = orElse-0 (must (within 1000 30000 (p .weight)) 7) _ hp in
       let p2 = orElse-0 (must (within 20 100 (p .ratio)) 7) _ (p1 .1) in
       let p3 = orElse-0 (must (within 10 100 (p .friction)) 7) _ (p2 .1) in
-      let p4 = orElse-0 (must (either (eqb (p .factor) 0) (within 100 200 (p .factor))) 7) 0 (p3 .1) in
+      let p4 = orElse-0 (must (eqb (p .factor) 0 || within 100 200 (p .factor)) 7) 0 (p3 .1) in
       let w1 = within-true 1000 30000 (p .weight) (must-true (within 1000 30000 (p .weight)) 6 (p1 .0)) in
       let w2 = within-true 20 100 (p .ratio) (must-true (within 20 100 (p .ratio)) 6 (p2 .0)) in
       let w3 = within-true 10 100 (p .friction) (must-true (within 10 100 (p .friction)) 6 (p3 .0)) in
-      let x = both-true (leb (4 * e .inlet) (d-c c)) (leb (4 * e .outlet) (d-c c)) (must-true (both (leb (4 * e .inlet) (d-c c)) (leb (4 * e .outlet) (d-c c))) 7 he) in
+      let x = both-true (leb (4 * e .inlet) (d-c c)) (leb (4 * e .outlet) (d-c c)) (must-true (leb (4 * e .inlet) (d-c c) && leb (4 * e .outlet) (d-c c)) 7 he) in
       record {
         a-least = a .0;
         a-most = a .1;
@@ -101,7 +101,7 @@ module _ (c : Section) (p : Product) (e : Eccentricities) (b : Bottom) where
         ratio-most = w2 .1;
         friction-least = w3 .0;
         friction-most = w3 .1;
-        factor-range = factor-of (p .factor) (must-true (either (eqb (p .factor) 0) (within 100 200 (p .factor))) 6 (p4 .0));
+        factor-range = factor-of (p .factor) (must-true (eqb (p .factor) 0 || within 100 200 (p .factor)) 6 (p4 .0));
         inlet-most = leb-true (4 * e .inlet) (d-c c) (x .0);
         outlet-most = leb-true (4 * e .outlet) (d-c c) (x .1);
         bottom-shape = bottom-of-rule (d-c c) b hb;

@@ -11,7 +11,8 @@ use borrow.Author.Tests.{eq-eqb, ne-eqb}
 use lib.ListN.{length, getD, take, replicate, List·getD-append}
 use lib.Seq.{take-length}
 use Rattle.janssen.specs.Section.{side-a, side-b, d-c}
-use Rattle.description.specs.Silo.{section-of, product-sent, product-read, product-of, factor-read, strakes-of, strake-count, sum, V-of, h-of, edge-of, wall-of, wall-top, wall-lowered, wall-after}
+use Rattle.description.specs.Silo.{section-of, product-sent, product-read, product-of, factor-read, strakes-of, strake-count, sum, V-of, h-of, edge-of}
+use Rattle.description.specs.program.Wall.{wall-of, wall-top, wall-lowered, wall-after}
 use Rattle.sheet.specs.Accepted.{Accepted, ProductRange}
 use Rattle.description.proofs.Walls.{strakes-length}
 use Rattle.description.proofs.Sums.{sum-next, sum-take}

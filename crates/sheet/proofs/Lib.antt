@@ -1,4 +1,4 @@
-pub mod Answers
+pub mod Numbers
 pub mod Heights
 pub mod Layouts
 pub mod Acceptance

@@ -1,6 +1,6 @@
--- The first refusal that applies to a sheet, and the length call. Document 01, "Who can be refused" and "Answer list".
-use Prim.Native.Nat.{ℕ, zero, suc, _+_, _*_}
-use mathlib.Core.Bool.{Bool, true}
+-- The first refusal that applies to a sheet. Document 01, "Who can be refused".
+use Prim.Native.Nat.{ℕ, _+_, _*_}
+use mathlib.Core.Bool.{Bool, true, _&&_, _||_}
 use mathlib.Core.List.{List, [], _∷_}
 use lib.Dec.{leb, ltb, eqb}
 use Rattle.janssen.specs.declared.Section.{Section}
@@ -8,15 +8,13 @@ use Rattle.janssen.specs.declared.Product.{Product}
 use Rattle.janssen.specs.Section.{side-a, side-b, d-c}
 use Rattle.description.specs.declared.Eccentricities.{Eccentricities}
 use Rattle.description.specs.declared.Bottom.{Bottom}
-use Rattle.sheet.specs.declared.AnswersLength.{AnswersLength}
-use Rattle.sheet.specs.declared.AnswersLength.the-variants.{Due, Refused}
-use Rattle.records.specs.Rules.{both, either, within, must, orElse, firstOf}
+use Rattle.records.specs.Rules.{within, must, orElse, firstOf}
 use Rattle.records.specs.Format.{layout-rule}
-use Rattle.description.specs.Silo.{section-of, product-sent, eccentricities-of, bottom-of, strakes-of, depths-of, strake-count, depth-count, V-of, h-of}
+use Rattle.description.specs.Silo.{section-of, product-sent, eccentricities-of, bottom-of, strakes-of, depths-of, V-of, h-of}
 
 -- d, a or b outside 500..50,000
 unfoldable pub sides-rule : Section → ℕ
-sides-rule c = must (both (within 500 50000 (side-a c)) (within 500 50000 (side-b c))) 6
+sides-rule c = must (within 500 50000 (side-a c) && within 500 50000 (side-b c)) 6
 
 -- γ outside 1,000..30,000, Ks outside 20..100, μ outside 10..100, or C0 neither 0 nor 100..200
 unfoldable pub product-rule : Product → ℕ
@@ -25,30 +23,28 @@ product-rule p =
     (must (within 1000 30000 (p .weight)) 7
     ∷ must (within 20 100 (p .ratio)) 7
     ∷ must (within 10 100 (p .friction)) 7
-    ∷ must (either (eqb (p .factor) 0) (within 100 200 (p .factor))) 7
+    ∷ must (eqb (p .factor) 0 || within 100 200 (p .factor)) 7
     ∷ [])
 
 -- an eccentricity with 4e > d_c
 unfoldable pub eccentricities-rule : ℕ → Eccentricities → ℕ
-eccentricities-rule dc e = must (both (leb (4 * e .inlet) dc) (leb (4 * e .outlet) dc)) 8
+eccentricities-rule dc e = must (leb (4 * e .inlet) dc && leb (4 * e .outlet) dc) 8
 
 -- flat; or r ≥ 1, 2r < d_c, H ≤ 25,000 and 1,000,000·H ≥ 363,971·r (α over 20°)
 unfoldable pub flat : Bottom → Bool
-flat b = both (eqb (b .height) 0) (eqb (b .run) 0)
+flat b = eqb (b .height) 0 && eqb (b .run) 0
 
 unfoldable pub hopper : ℕ → Bottom → Bool
 hopper dc b =
-    both (leb 1 (b .run))
-    (both (ltb (2 * b .run) dc)
-    (both (leb (b .height) 25000) (leb (363971 * b .run) (1000000 * b .height))))
+    leb 1 (b .run) && (ltb (2 * b .run) dc && (leb (b .height) 25000 && leb (363971 * b .run) (1000000 * b .height)))
 
 unfoldable pub bottom-rule : ℕ → Bottom → ℕ
-bottom-rule dc b = must (either (flat b) (hopper dc b)) 9
+bottom-rule dc b = must (flat b || hopper dc b) 9
 
 -- a strake outside 200..3,000
 unfoldable pub strakes-within : List ℕ → Bool
 strakes-within [] = true
-strakes-within (x ∷ l) = both (within 200 3000 x) (strakes-within l)
+strakes-within (x ∷ l) = within 200 3000 x && strakes-within l
 
 unfoldable pub strakes-rule : List ℕ → ℕ
 strakes-rule l = must (strakes-within l) 10
@@ -56,7 +52,7 @@ strakes-rule l = must (strakes-within l) 10
 -- each depth is from low to top, and the next is at least one more
 unfoldable pub rising : ℕ → ℕ → List ℕ → Bool
 rising top low [] = true
-rising top low (z ∷ l) = both (within low top z) (rising top (z + 1) l)
+rising top low (z ∷ l) = within low top z && rising top (z + 1) l
 
 -- a depth over V or not greater than the one before
 unfoldable pub depths-rule : ℕ → ℕ → List ℕ → ℕ
@@ -78,19 +74,3 @@ values-rule s =
 -- 0, or the number of the first refusal: rules 1 to 5 on the records, then 6 to 13 on the values
 unfoldable pub refusal-of : List ℕ → ℕ
 refusal-of s = orElse (layout-rule s) (values-rule s)
-
--- 8 numbers a depth, 10 for the bottom, one a strake
-unfoldable pub length-due : List ℕ → ℕ
-length-due s = 8 * depth-count s + 10 + strake-count s
-
-abbrev pub pickLength : ℕ → AnswersLength → AnswersLength
-pickLength zero a = a
-pickLength (suc n) a = Refused (suc n)
-
-unfoldable pub answers-length : List ℕ → AnswersLength
-answers-length s = pickLength (refusal-of s) (Due (length-due s))
-
--- the number of each answer: a length is marked by 2^32, so that it can't be taken for a refusal
-unfoldable pub answers-length-number : AnswersLength → ℕ
-answers-length-number (Due n) = 4294967296 + n
-answers-length-number (Refused r) = r

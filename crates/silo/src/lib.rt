@@ -1,19 +1,18 @@
 // What a host sees: the exported calls over the crates below. `include/silo.h` declares them for C.
 ghost use mathlib.Core.Path.{_≡_};
 ghost use lib.ListN.{length};
-ghost use Rattle.sheet.specs.Refusal.{answers-length, answers-length-number};
+ghost use Rattle.answers.specs.Length.{answers-length, answers-length-number};
 ghost use Rattle.catalogue.specs.Table.{catalogue-refusal, catalogue-after};
-ghost use Rattle.loads.specs.Answers.{loads-refusal, left-by};
-ghost use Rattle.loads.specs.Claim.{Claim};
+ghost use Rattle.governing.specs.Strakes.{governs, governs-number};
+ghost use Rattle.janssen.specs.program.Pressure.{computed};
+ghost use Rattle.answers.specs.Promise.{Promise};
 
 // 0 with the answer list filled, or the number of the first refusal with the list as it was.
 #[no_mangle]
 pub extern "C" fn silo_loads(sheet: &[u8], answers: &mut [u32]) -> u32
-    ensures answer { λ r. ⌜ r ≡ loads-refusal (now (sheet .entry)) (length (now (answers .entry))) ⌝ }
-    ensures list { λ r. ⌜ now (answers .exit) ≡ left-by (now (sheet .entry)) (now (answers .entry)) ⌝ }
-    ensures demand { λ r. ⌜ (r ≡ 0 → Claim (now (sheet .entry)) (now (answers .exit))) ⌝ }
+    ensures { λ r. ⌜ Promise computed (now (sheet .entry)) (now (answers .entry)) r (now (answers .exit)) ⌝ }
 {
-    loads::loads(sheet, answers)
+    answers::loads(sheet, answers)
 }
 
 // 2^32 and the length due of the answer list, or the number of the first refusal.
@@ -21,7 +20,7 @@ pub extern "C" fn silo_loads(sheet: &[u8], answers: &mut [u32]) -> u32
 pub extern "C" fn silo_answers_length(sheet: &[u8]) -> u64
     ensures { λ r. ⌜ r ≡ answers-length-number (answers-length (now (sheet .entry))) ⌝ }
 {
-    sheet::answers_length(sheet).number()
+    answers::length::answers_length(sheet).number()
 }
 
 // 0 with the product record of a catalogue row and wall written, or 15 or 16 with the buffer as it was.
@@ -31,4 +30,12 @@ pub extern "C" fn silo_catalogue(row: u32, wall: u32, record: &mut [u8]) -> u32
     ensures buffer { λ r. ⌜ now («record» .exit) ≡ catalogue-after row wall (now («record» .entry)) ⌝ }
 {
     catalogue::catalogue(row, wall, record)
+}
+
+// Of two strake lists the one that governs: 1 the first, 2 the second, 0 an empty part of the first.
+#[no_mangle]
+pub extern "C" fn silo_governing(first: &[u32], second: &[u32]) -> u32
+    ensures { λ r. ⌜ r ≡ governs-number (governs (now (first .entry)) (now (second .entry))) ⌝ }
+{
+    governing::which(first, second).number()
 }

@@ -1,5 +1,5 @@
 -- Each field is what its reader ensures.
-use Rattle.description.specs.Silo.{silo-of}
+use Rattle.description.specs.program.Wall.{silo-read}
 use borrow.Author.Needs.{needs}
 use Rattle.description.proofs.read_silo.Statement.{statement}
 use Rattle.description.proofs.read_silo.Tie as tie
@@ -20,7 +20,7 @@ read-wall-requires : tie.Need-read-wall-requires
 read-wall-requires c κs = c .before .before .before .before .before .pre
 
 returns : tie.Need-returns
-unfolding silo-of
+unfolding silo-read
 returns c = simp (c .before .before .before .before .read-section .ensures .0, c .before .before .before .read-product .ensures, c .before .before .read-eccentricities .ensures .0, c .before .read-bottom .ensures .0, c .read-wall .ensures)
 
 pub read-silo-spec : {M : Type 1} → statement M

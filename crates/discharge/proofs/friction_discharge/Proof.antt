@@ -1,8 +1,9 @@
 -- The quotient is the definition's own, and it fits a u32.
 use borrow.Author.Needs.{needs}
 use native.Mathlib.Omega.{arith}
-use Rattle.discharge.specs.Discharge.{p-we}
-use Rattle.discharge.proofs.Discharge.{p-we-range}
+use Rattle.fraction.specs.Fraction.{_⊘_}
+use Rattle.discharge.specs.Discharge.{discharge-load}
+use Rattle.discharge.proofs.Discharge.{discharge-load-range}
 use Rattle.discharge.proofs.friction_discharge.Statement.{statement}
 use Rattle.discharge.proofs.friction_discharge.Tie as tie
 
@@ -16,11 +17,11 @@ quotient-up-requires : tie.Need-quotient-up-requires
 quotient-up-requires c κs = search needs
 
 cast-t5 : tie.Need-cast-t5
-unfolding p-we
-cast-t5 c = omega (arith, c .quotient-up .ensures, p-we-range (c .before .before .args .filling .0) (omega arith))
+unfolding discharge-load
+cast-t5 c = omega (arith, c .quotient-up .ensures, discharge-load-range (11 ⊘ 10) (omega arith) (c .before .before .args .filling .0) (omega arith) (omega arith))
 
 returns : tie.Need-returns
-unfolding p-we
+unfolding discharge-load
 returns c = c .quotient-up .ensures
 
 pub friction-discharge-spec : {M : Type 1} → statement M

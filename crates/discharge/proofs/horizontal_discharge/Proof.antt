@@ -4,8 +4,9 @@ use Prim.Native.Nat.{_≤_, _^_}
 use mathlib.Core.Path.{_≡_}
 use native.Mathlib.Omega.{arith}
 use native.Mathlib.Nat.{mul-le-mul-right}
-use Rattle.discharge.specs.Discharge.{p-he}
-use Rattle.discharge.proofs.Discharge.{p-he-range}
+use Rattle.fraction.specs.Fraction.{_⊘_}
+use Rattle.discharge.specs.Discharge.{discharge-load}
+use Rattle.discharge.proofs.Discharge.{discharge-load-range}
 use Rattle.discharge.proofs.horizontal_discharge.Statement.{statement}
 use Rattle.discharge.proofs.horizontal_discharge.Tie as tie
 
@@ -21,12 +22,12 @@ quotient-up-requires c κs = search needs
 -- the quotient and its range
 answer :
     (c : tie.After-quotient-up) →
-    (c .quotient-up .result ≡ p-he (c .before .before .args .factor) (c .before .before .args .filling .0)) ×
+    (c .quotient-up .result ≡ discharge-load (c .before .before .args .factor ⊘ 100) (c .before .before .args .filling .0)) ×
     (c .quotient-up .result ≤ 2 ^ 26)
-unfolding p-he
+unfolding discharge-load
 answer c =
     let a = c .before .before .args in
-    (c .quotient-up .ensures, omega (arith, c .quotient-up .ensures, p-he-range (a .factor) (a .filling .0) (omega arith) (omega arith)))
+    (c .quotient-up .ensures, omega (arith, c .quotient-up .ensures, discharge-load-range (a .factor ⊘ 100) (omega arith) (a .filling .0) (omega arith) (omega arith)))
 
 cast-t6 : tie.Need-cast-t6
 cast-t6 c = omega (arith, answer c .1)

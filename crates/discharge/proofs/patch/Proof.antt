@@ -4,8 +4,8 @@ use Prim.Native.Nat.{_+_, _*_, _^_, _≤_}
 use native.Mathlib.Omega.{arith}
 use mathlib.Core.Path.{_≡_, _∙_}
 use native.Mathlib.Nat.{mul-le-mul}
-use Rattle.discharge.specs.Discharge.{p-p}
-use Rattle.discharge.proofs.Discharge.{p-p-range, p-p-divided}
+use Rattle.discharge.specs.Discharge.{patch-load}
+use Rattle.discharge.proofs.Discharge.{patch-load-range, patch-load-divided}
 use Rattle.discharge.proofs.patch.Statement.{statement}
 use Rattle.discharge.proofs.patch.Tie as tie
 
@@ -33,15 +33,15 @@ quotient-up-requires c κs = search needs
 -- the quotient is the definition's
 answer :
     (c : tie.After-quotient-up) →
-    c .quotient-up .result ≡ p-p (c .before .before .args .e) (c .before .before .args .d) (c .before .before .args .horizontal .0)
+    c .quotient-up .result ≡ patch-load (c .before .before .args .e) (c .before .before .args .d) (c .before .before .args .horizontal .0)
 answer c =
     let a = c .before .before .args in
-    c .quotient-up .ensures ∙ p-p-divided (a .e) (a .d) (a .horizontal .0) (omega arith)
+    c .quotient-up .ensures ∙ patch-load-divided (a .e) (a .d) (a .horizontal .0) (omega arith)
 
 cast-t10 : tie.Need-cast-t10
 cast-t10 c =
     let a = c .before .before .args in
-    omega (arith, answer c, p-p-range (a .e) (a .d) (a .horizontal .0) (omega arith) (omega arith) (omega arith))
+    omega (arith, answer c, patch-load-range (a .e) (a .d) (a .horizontal .0) (omega arith) (omega arith) (omega arith))
 
 returns : tie.Need-returns
 returns c = answer c

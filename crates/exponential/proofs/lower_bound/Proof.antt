@@ -8,8 +8,8 @@ use borrow.Author.Needs.{needs}
 use native.Mathlib.Omega.{arith}
 use native.Mathlib.Nat.{max-eq-left, max-eq-right, le-trans, le-of-eq}
 use lib.ListN.{getD}
-use Rattle.exponential.specs.Table.{table}
-use Rattle.exponential.specs.Lower.{denominator, between, entry, lower}
+use Rattle.exponential.specs.program.Table.{table}
+use Rattle.exponential.specs.program.Lower.{denominator, between, entry, lower}
 use Rattle.exponential.proofs.TableLaws.{entry-le}
 use Rattle.exponential.proofs.LowerLaws.{lower-le}
 use Rattle.exponential.proofs.lower_bound.Statement.{statement}

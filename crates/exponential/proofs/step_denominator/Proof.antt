@@ -7,7 +7,7 @@ use borrow.Author.Needs.{needs}
 use native.Mathlib.Omega.{arith}
 use native.Mathlib.Nat.{mul-le-mul, le-of-lt}
 use Rattle.fraction.specs.Fraction.{up}
-use Rattle.exponential.specs.Lower.{denominator}
+use Rattle.exponential.specs.program.Lower.{denominator}
 use Rattle.exponential.proofs.step_denominator.Statement.{statement}
 use Rattle.exponential.proofs.step_denominator.Tie as tie
 

@@ -3,8 +3,8 @@ use Prim.Native.Nat.{_*_, _≤_, _^_}
 use native.Mathlib.Omega.{arith}
 use native.Mathlib.Nat.{mul-le-mul}
 use borrow.Author.Needs.{needs}
-use Rattle.hopper.specs.Hopper.{p-t}
-use Rattle.hopper.proofs.Hopper.{p-t-range}
+use Rattle.hopper.specs.Hopper.{P-t}
+use Rattle.hopper.proofs.Hopper.{P-t-range}
 use Rattle.hopper.proofs.hopper_friction.Statement.{statement}
 use Rattle.hopper.proofs.hopper_friction.Tie as tie
 
@@ -24,13 +24,13 @@ quotient-up-requires : tie.Need-quotient-up-requires
 quotient-up-requires c κs = search needs
 
 cast-t7 : tie.Need-cast-t7
-unfolding p-t
+unfolding P-t
 cast-t7 c =
     let a = c .before .before .args in
-    omega (arith, c .quotient-up .ensures, p-t-range (a .friction) (a .normal .0) (omega arith) (omega arith))
+    omega (arith, c .quotient-up .ensures, P-t-range (a .friction) (a .normal .0) (omega arith) (omega arith))
 
 returns : tie.Need-returns
-unfolding p-t
+unfolding P-t
 returns c = c .quotient-up .ensures
 
 pub hopper-friction-spec : {M : Type 1} → statement M

@@ -4,8 +4,8 @@ use Prim.Native.Nat.{ℕ, _+_, _*_, _≤_, _^_}
 use mathlib.Core.Path.{_≡_, _∙_, ap}
 use native.Mathlib.Omega.{arith}
 use native.Mathlib.Nat.{mul-le-mul, mul-pos}
-use Rattle.hopper.specs.Hopper.{p-n}
-use Rattle.hopper.proofs.Hopper.{p-n-divided, p-n-range}
+use Rattle.hopper.specs.Hopper.{P-n}
+use Rattle.hopper.proofs.Hopper.{P-n-divided, P-n-range}
 use Rattle.hopper.proofs.hopper_normal.Statement.{statement}
 use Rattle.hopper.proofs.hopper_normal.Tie as tie
 
@@ -56,7 +56,7 @@ quotient-up-requires c κs =
 answer :
     (c : tie.After-quotient-up) →
     (c .before .before .before .before .args .filling + c .quotient-up .result ≡
-    p-n
+    P-n
     (c .before .before .before .before .args .height)
     (c .before .before .before .before .args .run)
     (c .before .before .before .before .args .k)
@@ -65,9 +65,9 @@ answer :
     (c .before .before .before .before .args .filling + c .quotient-up .result ≤ 2 ^ 26)
 answer c =
     let a = c .before .before .before .before .args in
-    let same : a .filling + c .quotient-up .result ≡ p-n (a .height) (a .run) (a .k) (a .filling) (a .vertical .0) =
+    let same : a .filling + c .quotient-up .result ≡ P-n (a .height) (a .run) (a .k) (a .filling) (a .vertical .0) =
     ap (λ (x : ℕ). a .filling + x) (c .quotient-up .ensures) ∙
-    p-n-divided
+    P-n-divided
     (a .height)
     (a .run)
     (a .k)
@@ -79,7 +79,7 @@ answer c =
     (c .before .before .square2 .ensures .0)
     (omega arith) in
     let range =
-    p-n-range
+    P-n-range
     (a .height)
     (a .run)
     (a .k)

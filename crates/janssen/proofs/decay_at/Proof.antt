@@ -2,8 +2,8 @@
 -- Assumes nothing.
 use borrow.Author.Needs.{needs}
 use mathlib.Core.Path.{_∙_, ap}
-use Rattle.exponential.specs.Lower.{lower}
-use Rattle.janssen.specs.Pressure.{decay}
+use Rattle.exponential.specs.program.Lower.{lower}
+use Rattle.janssen.specs.program.Pressure.{decay}
 use Rattle.janssen.proofs.decay_at.Statement.{statement}
 use Rattle.janssen.proofs.decay_at.Tie as tie
 

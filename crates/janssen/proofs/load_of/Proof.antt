@@ -2,7 +2,7 @@
 -- Assumes nothing.
 use borrow.Author.Needs.{needs}
 use native.Mathlib.Omega.{arith}
-use Rattle.janssen.specs.Pressure.{load}
+use Rattle.janssen.specs.program.Pressure.{load}
 use Rattle.janssen.proofs.Ready.{load-product, load-fits}
 use Rattle.janssen.proofs.load_of.Statement.{statement}
 use Rattle.janssen.proofs.load_of.Tie as tie

@@ -6,7 +6,7 @@ use mathlib.Core.Path.{_≡_, _∙_, ap}
 use mathlib.Core.Logic.{⊎-elim}
 use native.Mathlib.Omega.{arith}
 use native.Mathlib.Nat.{mul-comm}
-use Rattle.janssen.specs.Pressure.{loaded-depth}
+use Rattle.janssen.specs.program.Pressure.{loaded-depth}
 use Rattle.janssen.proofs.loaded_depth.Statement.{statement}
 use Rattle.janssen.proofs.loaded_depth.Tie as tie
 

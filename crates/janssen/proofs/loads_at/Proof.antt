@@ -8,11 +8,11 @@ use Rattle.janssen.specs.declared.Product.{Product}
 use Rattle.janssen.specs.declared.Curve.{Curve}
 use Rattle.janssen.specs.declared.Prepared.{Prepared}
 use Rattle.janssen.specs.declared.FillingLoads.{FillingLoads}
-use Rattle.janssen.specs.Range.{InRange, InDepth}
+use Rattle.janssen.specs.program.Range.{InRange, InDepth}
 use Rattle.janssen.specs.Filling.{Kind}
 use Rattle.janssen.specs.Filling.Kind.{horizontal, vertical, wall-friction}
-use Rattle.janssen.specs.Pressure.{filling, wall-load}
-use Rattle.janssen.specs.Prepare.{curve, prepared-for, filling-loads}
+use Rattle.janssen.specs.program.Pressure.{filling, wall-load}
+use Rattle.janssen.specs.program.Prepare.{curve, prepared-for, filling-loads}
 use Rattle.janssen.proofs.Ready.{CurveReady, curve-ready, friction-limit, z0-fits, pressure-is, load-is}
 use Rattle.janssen.proofs.loads_at.Statement.{statement}
 use Rattle.janssen.proofs.loads_at.Tie as tie

@@ -2,7 +2,7 @@
 -- Assumes nothing.
 use borrow.Author.Needs.{needs}
 use native.Mathlib.Omega.{arith}
-use Rattle.janssen.specs.Pressure.{pressure}
+use Rattle.janssen.specs.program.Pressure.{pressure}
 use Rattle.janssen.proofs.Ready.{pressure-fits}
 use Rattle.janssen.proofs.pressure_of.Statement.{statement}
 use Rattle.janssen.proofs.pressure_of.Tie as tie

@@ -1,11 +1,7 @@
 -- `silo::silo_answers_length` meets its contract: the number of the length call's answer.
--- Assumes nothing.
-use Prim.Native.Nat.{_<_}
-use mathlib.Core.Path.{ap, sym, subst, _∙_}
+use mathlib.Core.Path.{ap, _∙_}
 use borrow.Author.Needs.{needs}
-use Rattle.sheet.specs.declared.AnswersLength.{AnswersLength}
-use Rattle.sheet.specs.Refusal.{answers-length-number}
-use Rattle.sheet.proofs.Answers.{number-fits}
+use Rattle.answers.specs.Length.{answers-length-number}
 use Rattle.silo.proofs.silo_answers_length.Statement.{statement}
 use Rattle.silo.proofs.silo_answers_length.Tie as tie
 
@@ -13,8 +9,7 @@ answers-length-requires : tie.Need-answers-length-requires
 answers-length-requires c κs = search needs
 
 number-requires : tie.Need-number-requires
-number-requires c κs =
-    subst (λ (a : AnswersLength). answers-length-number a < 8589934592) (sym (c .answers-length .ensures)) (number-fits (c .before .before .args .sheet .now))
+number-requires c κs = search needs
 
 returns : tie.Need-returns
 returns c = c .number .ensures ∙ ap answers-length-number (c .before .answers-length .ensures)

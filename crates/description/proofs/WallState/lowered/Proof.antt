@@ -1,6 +1,6 @@
 -- The struct that the definition names.
 use mathlib.Core.Path.{refl}
-use Rattle.description.specs.Silo.{wall-lowered}
+use Rattle.description.specs.program.Wall.{wall-lowered}
 use borrow.Author.Needs.{needs}
 use Rattle.description.proofs.WallState.lowered.Statement.{statement}
 use Rattle.description.proofs.WallState.lowered.Tie as tie

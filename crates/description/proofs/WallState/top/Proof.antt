@@ -1,6 +1,6 @@
 -- The struct that the definition names.
 use mathlib.Core.Path.{refl}
-use Rattle.description.specs.Silo.{wall-top}
+use Rattle.description.specs.program.Wall.{wall-top}
 use Rattle.description.proofs.WallState.top.Statement.{statement}
 use Rattle.description.proofs.WallState.top.Tie as tie
 

@@ -9,7 +9,8 @@ use Rattle.records.proofs.Numbers.{numbers-start, numbers-next, numbers-end}
 use Rattle.records.specs.Format.{u16, numbers}
 use Prim.Native.Nat.{ℕ, _+_, _*_, _-_, _≤_}
 use mathlib.Core.Path.{_≡_, _∙_, ap, ap₂, sym}
-use Rattle.description.specs.Silo.{strakes-of, wall-of}
+use Rattle.description.specs.Silo.{strakes-of}
+use Rattle.description.specs.program.Wall.{wall-of}
 use borrow.Author.Needs.{needs}
 use native.Mathlib.Omega.{arith}
 use Rattle.description.proofs.values.read_wall.Statement.{statement}

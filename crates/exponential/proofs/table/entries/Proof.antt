@@ -1,7 +1,7 @@
 -- `exponential::table::entries` hands out the table: the constant is the specification's list, entry by entry.
 -- Assumes nothing.
 use mathlib.Core.Path.{refl}
-use Rattle.exponential.specs.Table.{table}
+use Rattle.exponential.specs.program.Table.{table}
 use Rattle.exponential.proofs.table.entries.Statement.{statement}
 use Rattle.exponential.proofs.table.entries.Tie as tie
 

@@ -1,0 +1,177 @@
+-- Demand 3, whole: every list that holds each number in its place for an accepted sheet meets `Claim` (`claim`).
+-- Acceptance puts section, product, factor and eccentricities inside their ranges and every depth used, listed or not, at most at
+-- the wall's foot, which is less than ten widths down. There each number holds by its own law (`holds`, `rises`), and the order between
+-- two lists is the order of the named pressures, which have nothing in them but section, product and depth.
+-- Assumes nothing.
+use Prim.Native.Nat.{ℕ, zero, suc, _+_, _-_, _≤_, _<_}
+use mathlib.Core.Bool.{true, false≢true}
+use mathlib.Core.Path.{_≡_, refl, ap, sym, subst}
+use mathlib.Core.List.{List}
+use mathlib.Core.Logic.{⊎-elim}
+use native.Mathlib.Omega.{arith}
+use lib.ListN.{length}
+use Rattle.janssen.proofs.FillingLaws.{filling-rises}
+use Rattle.janssen.proofs.WallLoadOrder.{wall-load-rises}
+use Rattle.janssen.specs.Filling.{Kind}
+use Rattle.janssen.specs.Filling.Kind.{horizontal, vertical, wall-friction}
+use Rattle.janssen.specs.program.Range.{InRange, InDepth}
+use Rattle.janssen.specs.program.Pressure.{filling, wall-load, computed}
+use Rattle.records.specs.Format.{place, payload-length}
+use Rattle.description.specs.Silo.{section-of, product-of, bottom-of, depth-count, strakes-of, edge-of, V-of}
+use Rattle.description.proofs.Sums.{sum-under}
+use Rattle.sheet.specs.Refusal.{refusal-of}
+use Rattle.sheet.specs.Accepted.{Accepted}
+use Rattle.sheet.proofs.Acceptance.{accepted}
+use Rattle.sheet.proofs.Described.{edge-most, V-most, V-slender, d-c-most, product-range}
+use Rattle.loads.specs.Load.{Load}
+use Rattle.loads.specs.Load.{Silo, load-depth, number}
+use Rattle.loads.specs.Load.Load.{listed-depth, p-hf, p-wf, p-vf, P-w, p-he, p-we, p-p}
+use Rattle.loads.specs.Holds.{Holds}
+use Rattle.loads.specs.program.Basis.{Reached, Fits}
+use Rattle.loads.proofs.RowLaws.{load-depth-most, holds, rises, bottom-holds}
+use Rattle.answers.specs.Answers.{silo-of, depth, bottom-in, Filled}
+use Rattle.answers.specs.Claim.{of-filling, SameSectionAndProduct, Claim}
+use Rattle.answers.proofs.SameRecords.{same-section, same-product}
+
+module _ (s : List ℕ) (a : Accepted s) where
+  pub in-range : InRange (section-of s) (product-of s)
+  in-range =
+      let v = a .values in
+      let p = product-range s a in
+      record {
+        a-in = record { least = v .a-least; most = v .a-most };
+        b-in = record { least = v .b-least; most = v .b-most };
+        γ-in = record { least = p .weight-least; most = p .weight-most };
+        Ks-in = record { least = p .ratio-least; most = p .ratio-most };
+        μ-in = record { least = p .friction-least; most = p .friction-most };
+      }
+
+  -- every depth at most at the wall's foot
+  pub reached : (x : ℕ) → x ≤ V-of s → Reached (silo-of s) x
+  reached x h =
+      record {
+        slender = omega (arith, V-slender s a, load-depth-most (silo-of s) x);
+        wall = omega (arith, V-most s a, load-depth-most (silo-of s) x);
+      }
+
+  pub depth-reached : (i : ℕ) → i < depth-count s → Reached (silo-of s) (depth s i)
+  depth-reached i h = reached (depth s i) (a .depths-most i h)
+
+  edge-reached : (k : ℕ) → Reached (silo-of s) (edge-of s k)
+  edge-reached k = reached (edge-of s k) (edge-most s k)
+
+  -- H and r are at most 25,000
+  bottom-fits : (bottom-of s .height ≤ 25000) × (bottom-of s .run ≤ 25000)
+  bottom-fits =
+      ⊎-elim (λ o. (omega (arith, o .0), omega (arith, o .1))) (λ x. (x .height-most, omega (arith, x .run-narrow, d-c-most s a)))
+      (a .values .bottom-shape)
+
+  pub silo-fits : Fits (silo-of s)
+  silo-fits =
+      record {
+        range = in-range;
+        factor-most = product-range s a .factor-most;
+        eccentricity-most = omega (arith, a .values .inlet-most, a .values .outlet-most);
+        height-most = bottom-fits .0;
+        run-most = bottom-fits .1;
+        foot-reached = reached (V-of s) (omega arith);
+      }
+
+  -- the listed depths rise
+  depths-rise : (i n : ℕ) → i + n < depth-count s → depth s i ≤ depth s (i + n)
+  depths-rise i zero h =
+      let e : depth s (i + 0) ≡ depth s i = ap (depth s) (omega arith) in
+      omega (arith, e)
+  depths-rise i (suc n) h =
+      let e : depth s (i + suc n) ≡ depth s (suc (i + n)) = ap (depth s) (omega arith) in
+      omega (arith, depths-rise i n (omega arith), a .depths-rise (i + n) (omega arith), e)
+
+  depths-down : (i j : ℕ) → i ≤ j → j < depth-count s → depth s i ≤ depth s j
+  depths-down i j h g =
+      let e : i + (j - i) ≡ j = omega arith in
+      subst (λ (x : ℕ). depth s i ≤ depth s x) e (depths-rise i (j - i) (omega arith))
+
+  edges-down : (k m : ℕ) → k ≤ m → edge-of s k ≤ edge-of s m
+  unfolding edge-of
+  edges-down k m h = sum-under (strakes-of s) k m h
+
+two-records : (s : List ℕ) → Accepted s → place s 2 ≤ length s
+unfolding place payload-length
+two-records s a = a .layout .present 1 (omega arith)
+
+-- section and product of two accepted sheets with equal first records
+module _ (s s' : List ℕ) (a : Accepted s) (a' : Accepted s') (e : SameSectionAndProduct s s') where
+  section-length : 4 ≤ payload-length s 0
+  section-length =
+      ⊎-elim (λ k. omega (arith, a .layout .circle-length k)) (λ k. omega (arith, a .layout .rectangle-length k)) (a .layout .section-kind)
+
+  section-equal : section-of s ≡ section-of s'
+  section-equal = same-section s s' (two-records s a) (two-records s' a') e section-length (a .layout .product-length)
+
+  product-equal : product-of s ≡ product-of s'
+  product-equal = same-product s s' (two-records s a) (two-records s' a') e section-length (a .layout .product-length)
+
+  pressure-same : (k : Kind) (x y : ℕ) → x ≡ y → filling k (section-of s) (product-of s) x ≡ filling k (section-of s') (product-of s') y
+  pressure-same k x y g = rw (section-equal, product-equal, g) refl
+
+  load-same : (x y : ℕ) → x ≡ y → wall-load (section-of s) (product-of s) x ≡ wall-load (section-of s') (product-of s') y
+  load-same x y g = rw (section-equal, product-equal, g) refl
+
+  pressure-more : (k : Kind) (x y : ℕ) → InDepth (section-of s') y → x ≤ y → filling k (section-of s) (product-of s) x ≤ filling k (section-of s') (product-of s') y
+  pressure-more k x y d g = rw (section-equal, product-equal) (filling-rises k (section-of s') (product-of s') x y (in-range s' a') d g)
+
+  load-more : (x y : ℕ) → InDepth (section-of s') y → x ≤ y → wall-load (section-of s) (product-of s) x ≤ wall-load (section-of s') (product-of s') y
+  load-more x y d g = rw (section-equal, product-equal) (wall-load-rises (section-of s') (product-of s') x y (in-range s' a') d g)
+
+  -- a load of filling is that of the other silo, at the same depth below the surface
+  number-same : (l : Load) → of-filling l ≡ true → (x y : ℕ) → load-depth (silo-of s) x ≡ load-depth (silo-of s') y
+      → number computed (silo-of s) l x ≡ number computed (silo-of s') l y
+  number-same p-hf o x y g = pressure-same horizontal _ _ g
+  number-same p-wf o x y g = pressure-same wall-friction _ _ g
+  number-same p-vf o x y g = pressure-same vertical _ _ g
+  number-same P-w o x y g = load-same _ _ g
+  number-same listed-depth o x y g = absurd (false≢true o)
+  number-same p-he o x y g = absurd (false≢true o)
+  number-same p-we o x y g = absurd (false≢true o)
+  number-same p-p o x y g = absurd (false≢true o)
+
+  -- and no smaller at a greater one
+  number-more : (l : Load) → of-filling l ≡ true → (x y : ℕ) → Reached (silo-of s') y → load-depth (silo-of s) x ≤ load-depth (silo-of s') y
+      → number computed (silo-of s) l x ≤ number computed (silo-of s') l y
+  number-more p-hf o x y d g = pressure-more horizontal _ _ d g
+  number-more p-wf o x y d g = pressure-more wall-friction _ _ d g
+  number-more p-vf o x y d g = pressure-more vertical _ _ d g
+  number-more P-w o x y d g = load-more _ _ d g
+  number-more listed-depth o x y d g = absurd (false≢true o)
+  number-more p-he o x y d g = absurd (false≢true o)
+  number-more p-we o x y d g = absurd (false≢true o)
+  number-more p-p o x y d g = absurd (false≢true o)
+
+-- demand 3
+pub claim : (s list : List ℕ) → refusal-of s ≡ 0 → Filled computed s list → Claim computed s list
+claim s list h fill =
+    let a : Accepted s = accepted s h in
+    let c : Silo = silo-of s in
+    let fits : Fits c = silo-fits s a in
+    record {
+      due = fill .due;
+      depths = λ l i g. subst (Holds c l (depth s i)) (sym (fill .at-depths l i g)) (holds c fits l (depth s i) (depth-reached s a i g));
+      bottom = bottom-holds c fits (bottom-in s list) (fill .at-bottom);
+      strakes =
+          λ k g. subst (Holds c p-he (edge-of s (suc k))) (sym (fill .at-strakes k g)) (holds c fits p-he (edge-of s (suc k)) (edge-reached s a (suc k)));
+      down =
+          λ l i j g n. rw (fill .at-depths l i (omega arith), fill .at-depths l j n)
+          (rises c fits l (depth s i) (depth s j) (depth-reached s a j n) (depths-down s a i j g n));
+      strakes-down =
+          λ k m g n. rw (fill .at-strakes k (omega arith), fill .at-strakes m n)
+          (rises c fits p-he (edge-of s (suc k)) (edge-of s (suc m)) (edge-reached s a (suc m)) (edges-down s a (suc k) (suc m) (omega arith)));
+      ordered =
+          λ s' list' left e l o i j g n.
+          let a' : Accepted s' = accepted s' (left .accepted) in
+          rw (fill .at-depths l i g, left .filled .at-depths l j n)
+          (record {
+            rises = number-more s s' a a' e l o (depth s i) (depth s' j) (depth-reached s' a' j n);
+            falls = number-more s' s a' a (sym e) l o (depth s' j) (depth s i) (depth-reached s a i g);
+            same = number-same s s' a a' e l o (depth s i) (depth s' j);
+          });
+    }

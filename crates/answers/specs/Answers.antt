@@ -1,0 +1,53 @@
+-- The answer list: each of its numbers, and what the load call answers. Document 01, "Sheet", "Answer list" and "Who can be refused".
+use Prim.Native.Nat.{ℕ, suc, _<_, max}
+use mathlib.Core.Path.{_≡_}
+use mathlib.Core.List.{List}
+use lib.Dec.{eqb}
+use lib.ListN.{length, getD}
+use Rattle.records.specs.Rules.{must, orElse}
+use Rattle.janssen.specs.Numbers.{FillingNumbers}
+use Rattle.description.specs.Silo.{section-of, product-of, eccentricities-of, bottom-of, depths-of, depth-count, strake-count, edge-of, V-of}
+use Rattle.sheet.specs.Refusal.{refusal-of}
+use Rattle.answers.specs.Length.{length-due}
+use Rattle.loads.specs.Load.{Load}
+use Rattle.loads.specs.Load.{Silo, number, bottom-numbers}
+use Rattle.loads.specs.Load.Load.{p-he}
+use Rattle.answers.specs.Place.{load-place, bottom-place, strake-place}
+
+-- the silo that a sheet describes, mm; e is the larger of e_i, e_o
+abbrev pub silo-of : List ℕ → Silo
+silo-of s =
+    record {
+      section = section-of s;
+      product = product-of s;
+      eccentricity = max (eccentricities-of s .inlet) (eccentricities-of s .outlet);
+      height = bottom-of s .height;
+      run = bottom-of s .run;
+      foot = V-of s;
+    }
+
+-- the depth i as listed, mm
+abbrev pub depth : List ℕ → ℕ → ℕ
+depth s i = getD (depths-of s) i 0
+
+-- the numbers of a sheet's answer list
+abbrev pub load-in : List ℕ → List ℕ → Load → ℕ → ℕ
+load-in s list l i = getD list (load-place (depth-count s) l i) 0
+
+abbrev pub bottom-in : List ℕ → List ℕ → ℕ → ℕ
+bottom-in s list k = getD list (bottom-place (depth-count s) k) 0
+
+abbrev pub strake-in : List ℕ → List ℕ → ℕ → ℕ
+strake-in s list k = getD list (strake-place (depth-count s) k) 0
+
+-- the list has the length due, and each number in its place
+pub record Filled (f : FillingNumbers) (s list : List ℕ) : Type 0 where
+  pub due : length list ≡ length-due s
+  pub at-depths : (l : Load) (i : ℕ) → i < depth-count s → load-in s list l i ≡ number f (silo-of s) l (depth s i)
+  pub at-bottom : (k : ℕ) → k < 10 → bottom-in s list k ≡ getD (bottom-numbers f (silo-of s)) k 0
+  -- p_he at the strake's lower edge
+  pub at-strakes : (k : ℕ) → k < strake-count s → strake-in s list k ≡ number f (silo-of s) p-he (edge-of s (suc k))
+
+-- what the load call answers, lent a list of so many numbers: 0, or the first refusal, 14 last
+unfoldable pub loads-refusal : List ℕ → ℕ → ℕ
+loads-refusal s n = orElse (refusal-of s) (must (eqb n (length-due s)) 14)

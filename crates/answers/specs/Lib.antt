@@ -1,0 +1,6 @@
+pub mod Place
+pub mod Length
+pub mod Answers
+pub mod Claim
+pub mod Promise
+pub mod program

@@ -1,0 +1,21 @@
+// The answer list of a sheet: the call that fills it. Document 01, "Answer list" and "Who can be refused".
+ghost use Rattle.janssen.specs.program.Pressure.{computed};
+ghost use Rattle.answers.specs.Promise.{Promise};
+
+mod fill; // the answer list, part by part
+pub mod length; // the call that tells its length
+
+// The load call: 0 with the list filled, or the number of the first refusal with the list as it was.
+pub fn loads(sheet: &[u8], answers: &mut [u32]) -> u32
+    ensures { λ r. ⌜ Promise computed (now (sheet .entry)) (now (answers .entry)) r (now (answers .exit)) ⌝ }
+{
+    let refused = sheet::refusal(sheet);
+    if refused != 0 {
+        return refused;
+    }
+    if answers.len() != length::length_due(sheet) {
+        return 14;
+    }
+    fill::fill(sheet, answers);
+    0
+}

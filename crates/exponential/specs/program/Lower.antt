@@ -1,0 +1,21 @@
+-- The lower bound of 2^40·e^(-q) at q = Q/2^33 that the program uses, as the program computes it. What holds of it is proved in
+-- `proofs/LowerLaws.antt`: it lies below, it lies less than 354 below, it never rises with Q, and it is 2^40 at Q = 0.
+use Prim.Native.Nat.{ℕ, _+_, _-_, _*_, _/_, _%_, _^_, max}
+use lib.ListN.{getD}
+use Rattle.fraction.specs.Fraction.{up, _⊘_}
+use Rattle.exponential.specs.program.Table.{table}
+
+-- 2^33 times the first terms 4 + 3y + y² + y³/6 of (4 - y)·e^y at y = j/2^33, each rounded up
+unfoldable pub denominator : ℕ → ℕ
+denominator j = 2 ^ 35 + 3 * j + up ((j * j) ⊘ 2 ^ 33) + up ((j * up ((j * j) ⊘ 2 ^ 33)) ⊘ (6 * 2 ^ 33))
+
+-- from the entry t at k/64 to the point j/2^33 further, and never below the next entry
+unfoldable pub between : ℕ → ℕ → ℕ → ℕ
+between t next j = max (t * (2 ^ 35 - j) / denominator j) next
+
+unfoldable pub entry : ℕ → ℕ
+entry k = getD table k 0
+
+-- 2^40·e^(-Q/2^33) from below
+unfoldable pub lower : ℕ → ℕ
+lower Q = between (entry (Q / 2 ^ 27)) (entry (Q / 2 ^ 27 + 1)) (Q % 2 ^ 27)

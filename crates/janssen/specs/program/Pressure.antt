@@ -1,0 +1,50 @@
+-- The filling pressures and P_w as the program computes them, functions of section, product and depth alone. What holds of them is
+-- proved in `proofs/`: they lie inside their bands, and no pressure falls with depth.
+use Prim.Native.Nat.{ℕ, _-_, _*_, _/_, _^_}
+use Rattle.fraction.specs.Fraction.{_⊘_, whole, _⊗_, up}
+use Rattle.exponential.specs.program.Lower.{lower}
+use Rattle.janssen.specs.declared.Section.{Section}
+use Rattle.janssen.specs.declared.Product.{Product}
+use Rattle.janssen.specs.Filling.{Kind, Factors, factors, wall-load-factors, z0, q, P}
+use Rattle.janssen.specs.Filling.Kind.{wall-friction}
+use Rattle.janssen.specs.Numbers.{FillingNumbers}
+
+-- q for each mm, in 2^-55, rounded up
+unfoldable pub step : Factors → Section → Product → ℕ
+step f s p = up (q f s p 1 ⊗ whole (2 ^ 55))
+
+-- P in 2^-11 Pa, rounded up
+unfoldable pub limit : Kind → Section → Product → ℕ
+limit k s p = up (P k s p ⊗ whole (2 ^ 11))
+
+-- 2^40·e^(-q) from below, with q in 2^-33 rounded up
+unfoldable pub decay : ℕ → ℕ → ℕ
+decay step z = lower (up ((z * step) ⊘ 2 ^ 22))
+
+-- P·(1 - e^(-q)) in Pa, rounded up
+unfoldable pub pressure : ℕ → ℕ → ℕ
+pressure limit decay = up ((limit * (2 ^ 40 - decay)) ⊘ 2 ^ 51)
+
+-- the filling pressure at the depth z mm, Pa
+unfoldable pub filling : Kind → Section → Product → ℕ → ℕ
+filling k s p z = pressure (limit k s p) (decay (step (factors k) s p) z)
+
+-- z0 in 2^-11 mm, rounded down
+unfoldable pub z0-scaled : Section → Product → ℕ
+z0-scaled s p = (z0 wall-load-factors s p .top * (1000 * 2 ^ 11)) / z0 wall-load-factors s p .bottom
+
+-- z - z0·(1 - e^(-q)) in 2^-11 mm from above, with 2^40·e^(-q) at most 512 above `decay`
+unfoldable pub loaded-depth : ℕ → ℕ → ℕ → ℕ
+loaded-depth z0 decay z = z * 2 ^ 11 - z0 * (2 ^ 40 - decay - 512) / 2 ^ 40
+
+-- γR·(z - z0·(1 - e^(-q))) in N/m, rounded up
+unfoldable pub load : ℕ → ℕ → ℕ
+load limit depth = up ((limit * depth) ⊘ (2 ^ 22 * 1000))
+
+-- P_w at the depth z mm, N/m
+unfoldable pub wall-load : Section → Product → ℕ → ℕ
+wall-load s p z = load (limit wall-friction s p) (loaded-depth (z0-scaled s p) (decay (step wall-load-factors s p) z) z)
+
+-- the free numbers, as the program computes them
+abbrev pub computed : FillingNumbers
+computed = record { filling-at = filling; wall-load-at = wall-load }
