@@ -1,7 +1,9 @@
-/* Asks for the loads of a circular tower of 5 m by 10 m, and of the same tower one strake high, which is refused as squat. */
+/* Asks for the loads of a circular tower of 5 m by 10 m, and of the same tower one strake high, which is refused as squat; then whether
+ * the tower's strakes are governed by its product or by barley. */
 #include "silo.h"
 #include <inttypes.h>
 #include <stdio.h>
+#include <string.h>
 
 /* The bytes of a number, lowest first, and a record's header. */
 #define U16(n) (n) & 255, (n) >> 8
@@ -33,8 +35,23 @@ static void print_loads(const char *name, const uint8_t *sheet, size_t sheet_len
         printf("%" PRIu32 "\n", answers[i]);
 }
 
+/* The product record comes after the circle's 8 bytes; a list of 31 numbers ends with those of the 5 strakes. */
+static void print_governing(void) {
+    uint8_t barley[sizeof tower];
+    uint32_t first[31], second[31];
+    memcpy(barley, tower, sizeof tower);
+    silo_catalogue(0, 0, barley + 8, SILO_PRODUCT_RECORD);
+    silo_loads(tower, sizeof tower, first, 31);
+    silo_loads(barley, sizeof barley, second, 31);
+    printf("at the foot: %" PRIu32 ", with barley %" PRIu32 "\n", first[30], second[30]);
+    printf("governing: %" PRIu32 "\n", silo_governing(first + 26, 5, second + 26, 5));
+    printf("governing, of lists that end equally: %" PRIu32 "\n", silo_governing(first + 26, 5, first + 26, 5));
+    printf("governing, of 5 and 4 strakes: %" PRIu32 "\n", silo_governing(first + 26, 5, second + 26, 4));
+}
+
 int main(void) {
     print_loads("tower", tower, sizeof tower);
     print_loads("squat", squat, sizeof squat);
+    print_governing();
     return 0;
 }

@@ -71,6 +71,11 @@ uint64_t silo_answers_length(const uint8_t *sheet, size_t sheet_len);
  * Returns 0; or a refusal, 15 or 16, and the buffer is as it was. */
 uint32_t silo_catalogue(uint32_t row, uint32_t wall, uint8_t *record, size_t record_len);
 
+/* For a bin with two products: of two strake lists, each the last numbers of an answer list, the one that governs is the one with the
+ * greater last number, the first when equal. Neither list is changed.
+ * Returns 1 for the first, 2 for the second; 0, an empty part of the first, if the lengths differ or are 0. */
+uint32_t silo_governing(const uint32_t *first, size_t first_len, const uint32_t *second, size_t second_len);
+
 #ifdef __cplusplus
 }
 #endif

@@ -1,4 +1,4 @@
-//! The proved library's three functions behind safe Rust: slices in, results out.
+//! The proved library's four functions behind safe Rust: slices in, results out.
 
 /// Why a call was refused: the number that the library answers.
 #[derive(Clone, Copy, Debug, PartialEq, Eq)]
@@ -87,6 +87,18 @@ pub fn fill_loads(sheet: &[u8], answers: &mut [u32]) -> Result<(), Refusal> {
 pub fn fill_record(row: u32, wall: u32, record: &mut [u8]) -> Result<(), Refusal> {
     // SAFETY: the pointer and the length are those of one slice.
     done(unsafe { silo_sys::silo_catalogue(row, wall, record.as_mut_ptr(), record.len()) })
+}
+
+/// Of two strake lists the one that governs, with the greater last number, the first when equal; an empty part of the first if the
+/// lengths differ or are 0.
+pub fn governing<'a>(first: &'a [u32], second: &'a [u32]) -> &'a [u32] {
+    let (one, other) = (first.as_ptr(), second.as_ptr());
+    // SAFETY: each pointer goes with its own slice's length, and the call only reads.
+    match unsafe { silo_sys::silo_governing(one, first.len(), other, second.len()) } {
+        1 => first,
+        2 => second,
+        _ => &first[..0],
+    }
 }
 
 /// Numbers of a depth's row: z (mm), p_hf, p_wf, p_vf (Pa), P_w (N/m), p_he, p_we, p_p (Pa).

@@ -20,4 +20,12 @@ extern "C" {
     /// Writes the product record of a row of table 7.1; wall 0 is steel, wall 1 concrete. Answers 0; or a refusal, 15 or 16, and the
     /// buffer is as it was.
     pub fn silo_catalogue(row: u32, wall: u32, record: *mut u8, record_len: usize) -> u32;
+
+    /// Of two strake lists the one that governs. Answers 1 for the first, 2 for the second, 0 for an empty part of the first.
+    pub fn silo_governing(
+        first: *const u32,
+        first_len: usize,
+        second: *const u32,
+        second_len: usize,
+    ) -> u32;
 }
