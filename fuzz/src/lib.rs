@@ -14,7 +14,8 @@ fn stop_at<T>(outcome: Result<T, Difference>) -> T {
     })
 }
 
-/// Compares the calls for these bytes as a sheet, and the catalogue call for the row, wall and buffer length that they begin with.
+/// Compares the calls for these bytes as a sheet, the catalogue call for the row, wall and buffer length that they begin with, and the
+/// governing call for the halves of the numbers that they hold.
 ///
 /// # Safety
 /// `input` points to `length` bytes.
@@ -28,6 +29,10 @@ pub unsafe extern "C" fn compare_input(input: *const u8, length: usize) {
     let mut comparison = Comparison::with(&Linked);
     stop_at(comparison.sheet(bytes, &[list]));
     stop_at(comparison.catalogue(row, byte(4).into(), usize::from(byte(8)) % 32));
+    let number = |bytes: &[u8]| u32::from_le_bytes(bytes.try_into().expect("four bytes"));
+    let numbers: Vec<u32> = bytes.chunks_exact(4).map(number).collect();
+    let (first, second) = numbers.split_at(numbers.len() / 2);
+    stop_at(comparison.governing(first, second));
 }
 
 /// Compares the two calls that take a sheet: every limit, two rules broken at once, and random rounds; tells how many sheets.

@@ -17,6 +17,10 @@ pub trait Library {
     /// # Safety
     /// The buffer is lent whole.
     unsafe fn catalogue(&self, row: u32, wall: u32, record: *mut [u8]) -> u32;
+
+    /// # Safety
+    /// Both lists are lent whole.
+    unsafe fn governing(&self, first: *const [u32], second: *const [u32]) -> u32;
 }
 
 /// What a call did that document 01 does not allow, and the bytes of its sheet.
@@ -114,5 +118,24 @@ impl Calls<'_> {
         let (answer, buffer, spared) = self.lend(UNTOUCHED_BYTE, &before, call);
         expect(spared, &[], || format!("bytes beside the buffer of {length} were written to"))?;
         Ok((answer, buffer))
+    }
+
+    fn lend_strakes<A>(
+        &self,
+        strakes: &[u32],
+        call: impl FnOnce(*const [u32]) -> A,
+    ) -> Result<A, Difference> {
+        let (answer, after, spared) = self.lend(UNTOUCHED, strakes, |lent| call(lent));
+        expect(spared && after == strakes, &[], || {
+            format!("the strake list {strakes:?} was written to")
+        })?;
+        Ok(answer)
+    }
+
+    pub fn governing(&self, first: &[u32], second: &[u32]) -> Result<u32, Difference> {
+        self.lend_strakes(first, |first| {
+            // SAFETY: both are lent whole, from memory of their own.
+            self.lend_strakes(second, |second| unsafe { self.library.governing(first, second) })
+        })?
     }
 }

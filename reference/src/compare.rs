@@ -5,10 +5,10 @@
 //! list as it was.
 
 use crate::calls::{expect, Calls, Difference, Library, Outcome, UNTOUCHED, UNTOUCHED_BYTE};
-use crate::catalogue;
 use crate::formulas::{self, Filling};
 use crate::fraction::{fraction, least, whole, Fraction, Real};
 use crate::sheet::{parse, Silo};
+use crate::{catalogue, governing};
 use std::fmt;
 
 /// What was compared.
@@ -211,6 +211,16 @@ impl<'a> Comparison<'a> {
         expect(answer == due && buffer == bytes, &bytes, || {
             let call = format!("catalogue row {row}, wall {wall}, buffer of {length}");
             format!("{call}: answer {answer} with {buffer:?}, {due} with {bytes:?} due")
+        })?;
+        Ok(answer)
+    }
+
+    /// The governing call for any two lists; tells its answer.
+    pub fn governing(&self, first: &[u32], second: &[u32]) -> Result<u32, Difference> {
+        let (answer, due) =
+            (self.calls.governing(first, second)?, governing::answer(first, second));
+        expect(answer == due, &[], || {
+            format!("governing of {first:?} and {second:?}: answer {answer}, {due} due")
         })?;
         Ok(answer)
     }

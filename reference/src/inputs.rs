@@ -237,6 +237,14 @@ pub fn sibling(random: &mut Random, silo: &Silo) -> Silo {
     }
 }
 
+/// Two strake lists, mostly of one length; of any numbers, or of 0 and 1, so that some end equally.
+pub fn strake_lists(random: &mut Random) -> [Vec<u32>; 2] {
+    let limit = random.pick(&[2, 1 << 32]);
+    let length = random.below(26);
+    let other = if random.one_in(4) { random.below(26) } else { length };
+    [length, other].map(|length| (0..length).map(|_| random.below(limit) as u32).collect())
+}
+
 /// A sheet with something wrong, or with a number at or just past a limit.
 pub fn damaged(random: &mut Random, silo: &Silo) -> Vec<u8> {
     let mut bytes = silo.sheet();

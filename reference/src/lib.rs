@@ -7,6 +7,7 @@ pub mod compare;
 pub mod exponential;
 pub mod formulas;
 pub mod fraction;
+pub mod governing;
 pub mod inputs;
 pub mod limits;
 pub mod linked;

@@ -20,4 +20,10 @@ impl Library for Linked {
         // SAFETY: the pointer goes with its own length, and the caller lends the buffer whole.
         unsafe { silo_sys::silo_catalogue(row, wall, record.cast(), record.len()) }
     }
+
+    unsafe fn governing(&self, first: *const [u32], second: *const [u32]) -> u32 {
+        let (first_len, second_len) = (first.len(), second.len());
+        // SAFETY: each pointer goes with its own length, and the caller lends both whole.
+        unsafe { silo_sys::silo_governing(first.cast(), first_len, second.cast(), second_len) }
+    }
 }

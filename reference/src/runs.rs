@@ -72,3 +72,40 @@ pub fn catalogue(comparison: &Comparison) -> Result<BTreeMap<u32, u64>, Differen
     }
     Ok(calls)
 }
+
+/// Lengths of strake lists, the longest of a wall among them, and some that are equal in their lowest byte.
+const LENGTHS: [usize; 6] = [1, 2, 24, 25, 256, 257];
+/// Numbers at the end of a strake list.
+const LAST: [u32; 7] = [0, 1, 35_399, i32::MAX as u32, 1 << 31, u32::MAX - 1, u32::MAX];
+
+/// The empty list, and one of each length with each last number, after the least and after the greatest numbers.
+fn strake_lists() -> Vec<Vec<u32>> {
+    let mut lists = vec![vec![]];
+    for length in LENGTHS {
+        for last in LAST {
+            for before in [0, u32::MAX] {
+                lists.push([vec![before; length - 1], vec![last]].concat());
+            }
+        }
+    }
+    lists
+}
+
+/// The governing call for each of those lists with each, and for random ones; tells how many calls had each answer.
+pub fn governing(
+    comparison: &Comparison,
+    random: &mut Random,
+) -> Result<BTreeMap<u32, u64>, Difference> {
+    let lists = strake_lists();
+    let mut calls = BTreeMap::new();
+    for first in &lists {
+        for second in &lists {
+            *calls.entry(comparison.governing(first, second)?).or_insert(0) += 1;
+        }
+    }
+    for _ in 0..10_000 {
+        let [first, second] = inputs::strake_lists(random);
+        *calls.entry(comparison.governing(&first, &second)?).or_insert(0) += 1;
+    }
+    Ok(calls)
+}

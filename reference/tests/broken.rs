@@ -12,16 +12,21 @@ use reference::inputs::Random;
 use reference::linked::Linked;
 use reference::sheet::{parse, records, Silo};
 use reference::{limits, order, runs};
+use std::cmp::Ordering;
 
 type Loads = fn(&[u8], &mut [u32]) -> u32;
 type Length = fn(&[u8]) -> u64;
+type Governing = fn(&[u32], &[u32]) -> u32;
 type Write = fn(*mut u8, *mut [u32]);
+type WriteLists = fn(*mut [u32], *mut [u32]);
 
-/// The load call and the length call, and what the load call writes to besides: the sheet from its first byte on, or the list.
+/// The calls, and what they write to besides: the load call the sheet from its first byte on, or the list; the governing call its lists.
 struct Broken {
     loads: Loads,
     answers_length: Length,
+    governing: Governing,
     write: Write,
+    write_lists: WriteLists,
 }
 
 impl Library for Broken {
@@ -41,10 +46,18 @@ impl Library for Broken {
         // SAFETY: the caller's own promise.
         unsafe { Linked.catalogue(row, wall, record) }
     }
+
+    unsafe fn governing(&self, first: *const [u32], second: *const [u32]) -> u32 {
+        // SAFETY: both are lent whole, and the references end with the call.
+        let answer = unsafe { (self.governing)(&*first, &*second) };
+        (self.write_lists)(first.cast_mut(), second.cast_mut());
+        answer
+    }
 }
 
 /// The library itself.
-const WHOLE: Broken = Broken { loads, answers_length, write: |_, _| () };
+const WHOLE: Broken =
+    Broken { loads, answers_length, governing, write: |_, _| (), write_lists: |_, _| () };
 
 fn loads(sheet: &[u8], list: &mut [u32]) -> u32 {
     // SAFETY: each pointer is a slice's own.
@@ -54,6 +67,19 @@ fn loads(sheet: &[u8], list: &mut [u32]) -> u32 {
 fn answers_length(sheet: &[u8]) -> u64 {
     // SAFETY: the pointer is a slice's own.
     unsafe { Linked.answers_length(sheet) }
+}
+
+fn governing(first: &[u32], second: &[u32]) -> u32 {
+    // SAFETY: each pointer is a slice's own.
+    unsafe { Linked.governing(first, second) }
+}
+
+/// The second list where it governs by another rule, of two that the library chooses from.
+fn chosen(first: &[u32], second: &[u32], second_governs: bool) -> u32 {
+    match governing(first, second) {
+        0 => 0,
+        _ => 1 + u32::from(second_governs),
+    }
 }
 
 /// The library's answer, and its list changed where it succeeds.
@@ -253,6 +279,46 @@ const LENGTHS: &[(&str, Length)] = &[
     ("a mark on refusals too", |sheet| (1 << 32) | answers_length(sheet)),
 ];
 
+/// Wrong answers of the governing call.
+const CHOICES: &[(&str, Governing)] = &[
+    ("the second when equal", |first, second| chosen(first, second, second.last() >= first.last())),
+    ("the lesser last number", |first, second| chosen(first, second, second.last() < first.last())),
+    ("the first numbers", |first, second| chosen(first, second, second.first() > first.first())),
+    ("the greatest numbers", |first, second| {
+        chosen(first, second, second.iter().max() > first.iter().max())
+    }),
+    ("last numbers with a sign", |first, second| {
+        let [one, other] = [first, second].map(|list| list.last().map(|last| *last as i32));
+        chosen(first, second, other > one)
+    }),
+    ("the longer list", |first, second| match first.len().cmp(&second.len()) {
+        Ordering::Less => 2,
+        Ordering::Equal => governing(first, second),
+        Ordering::Greater => 1,
+    }),
+    ("lengths by their lowest byte", |first, second| {
+        let [one, other] = [first, second].map(|list| &list[..list.len() % 256]);
+        governing(one, other)
+    }),
+    ("the first of two empty lists", |first, second| match (first, second) {
+        ([], []) => 1,
+        _ => governing(first, second),
+    }),
+];
+
+/// Strake lists written to by the governing call.
+const LIST_WRITES: &[(&str, WriteLists)] = &[
+    ("the first list's last number", |first, _| {
+        // SAFETY: the list is lent whole, and no other reference to it is left.
+        let last = unsafe { &mut *first }.last_mut();
+        last.into_iter().for_each(|last| *last ^= 1);
+    }),
+    ("one number past the second list", |_, second| {
+        // SAFETY: the first canary after the list.
+        unsafe { second.cast::<u32>().add(second.len()).write(0) }
+    }),
+];
+
 /// Memory written to besides; canaries stand beside the sheet and the list.
 const WRITES: &[(&str, Write)] = &[
     ("one number past the list", |_, list| {
@@ -286,28 +352,42 @@ fn compared(library: &dyn Library) -> Outcome {
     runs::pairs(&mut comparison, &mut random, 2_000)
 }
 
-fn is_found(name: &str, broken: Broken) {
-    let difference = compared(&broken).expect_err(name);
+fn compared_governing(library: &dyn Library) -> Outcome {
+    runs::governing(&Comparison::with(library), &mut Random::new(1_991)).map(|_| ())
+}
+
+fn is_found(name: &str, outcome: Outcome) {
+    let difference = outcome.expect_err(name);
     println!("found, {name}: {}", difference.what);
 }
 
 #[test]
 fn broken_load_calls_are_found() {
     for (name, loads) in LISTS.iter().chain(REFUSALS) {
-        is_found(name, Broken { loads: *loads, ..WHOLE });
+        is_found(name, compared(&Broken { loads: *loads, ..WHOLE }));
     }
 }
 
 #[test]
 fn broken_length_calls_are_found() {
     for (name, answers_length) in LENGTHS {
-        is_found(name, Broken { answers_length: *answers_length, ..WHOLE });
+        is_found(name, compared(&Broken { answers_length: *answers_length, ..WHOLE }));
+    }
+}
+
+#[test]
+fn broken_governing_calls_are_found() {
+    for (name, governing) in CHOICES {
+        is_found(name, compared_governing(&Broken { governing: *governing, ..WHOLE }));
     }
 }
 
 #[test]
 fn stray_writes_are_found() {
     for (name, write) in WRITES {
-        is_found(name, Broken { write: *write, ..WHOLE });
+        is_found(name, compared(&Broken { write: *write, ..WHOLE }));
+    }
+    for (name, write_lists) in LIST_WRITES {
+        is_found(name, compared_governing(&Broken { write_lists: *write_lists, ..WHOLE }));
     }
 }

@@ -1,5 +1,5 @@
-//! compare [SHEETS [SEED]]: compares the catalogue, then at least that many random sheets, 1,000,000 where nothing is said, and prints how
-//! many of each kind.
+//! compare [SHEETS [SEED]]: compares the catalogue and the governing call, then at least that many random sheets, 1,000,000 where nothing is
+//! said, and prints how many of each kind.
 //!
 //! compare --exactly SHEETS [SEED]: lends memory of exactly its length on the heap and no canaries, for valgrind.
 //!
@@ -17,6 +17,7 @@ const PROGRESS: u64 = 1_000_000;
 
 fn run(comparison: &mut Comparison, sheets: u64, seed: u64) -> Outcome {
     runs::catalogue(comparison)?;
+    runs::governing(comparison, &mut Random::new(seed))?;
     let mut random = Random::new(seed);
     let mut next = PROGRESS;
     while comparison.tally.sheets() < sheets {
