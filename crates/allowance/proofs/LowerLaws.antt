@@ -16,16 +16,16 @@ use Rattle.janssen.specs.Band.{FillingBand}
 use Rattle.allowance.specs.Allowance.{Lower, Allowance}
 
 -- the first sum is 1
-pub first-top : (q : Fraction) → S 0 q .top ≡ 1
+first-top : (q : Fraction) → S 0 q .top ≡ 1
 unfolding S term
 first-top q = pow-zero (q .top)
 
-pub first-bottom : (q : Fraction) → S 0 q .bottom ≡ 1
+first-bottom : (q : Fraction) → S 0 q .bottom ≡ 1
 unfolding S term factorial
 first-bottom q = rw pow-zero refl
 
 -- a sum with a positive bottom is positive
-pub sum-positive : (n : ℕ) (q : Fraction) → 0 < S n q .bottom → 0 < S n q .top
+sum-positive : (n : ℕ) (q : Fraction) → 0 < S n q .bottom → 0 < S n q .top
 unfolding S term
 sum-positive zero q h = rw pow-zero (omega arith)
 sum-positive (suc n) q h =
@@ -34,7 +34,7 @@ sum-positive (suc n) q h =
     omega (arith, mul-pos (sum-positive n q mine) next)
 
 -- a lower fraction is at most a pressure that is at or above
-pub lower-below : {P q v : Fraction} (p : ℕ) → ((n : ℕ) → P ⊗ S n q ⪯ P ⊕ whole p ⊗ S n q) → Lower P q v → v ⪯ whole p
+lower-below : {P q v : Fraction} (p : ℕ) → ((n : ℕ) → P ⊗ S n q ⪯ P ⊕ whole p ⊗ S n q) → Lower P q v → v ⪯ whole p
 lower-below {P} {q} {v} p band low =
     let n : ℕ = low .below .0 in
     let h : P ⊕ v ⊗ S n q ⪯ P ⊕ whole p ⊗ S n q = ⪯-trans (low .below .1) (band n) in
@@ -45,26 +45,17 @@ lower-below {P} {q} {v} p band low =
       right = omega arith;
       order =
           le-of-mul-le-mul-right {k = S n q .top * (P .bottom * P .bottom * S n q .bottom)}
-          (cancelled
-          (P .top)
-          (P .bottom)
-          (S n q .top)
-          (S n q .bottom)
-          (v .top)
-          (v .bottom)
-          p
-          (h .order))
+          (cancelled (P .top) (P .bottom) (S n q .top) (S n q .bottom) (v .top) (v .bottom) p (h .order))
           (mul-pos (sum-positive n q t) (mul-pos (mul-pos b b) t));
     }
   where
-    cancelled :
-        (a b s t x y p : ℕ) →
+    cancelled : (a b s t x y p : ℕ) →
         (a * (y * t) + x * s * b) * (b * (1 * t)) ≤ (a * (1 * t) + p * s * b) * (b * (y * t)) →
         x * 1 * (s * (b * b * t)) ≤ p * y * (s * (b * b * t))
     cancelled a b s t x y p h = omega arith
 
 -- 0 is a lower fraction
-pub lower-zero : (P q : Fraction) → 0 < P .bottom → Lower P q (whole 0)
+lower-zero : (P q : Fraction) → 0 < P .bottom → Lower P q (whole 0)
 lower-zero P q h = record {
   proper = omega arith;
   below = (
@@ -78,17 +69,11 @@ lower-zero P q h = record {
 }
 
 -- two less than a pressure that is less than 2 above is a lower fraction
-pub lower-near :
-    (P q : Fraction) (p : ℕ) →
-    0 < P .bottom →
-    (n : ℕ) →
-    P ⊕ whole p ⊗ S n q ⪯ (P ⊕ whole 2) ⊗ S n q →
+lower-near : (P q : Fraction) (p : ℕ) → 0 < P .bottom → (n : ℕ) → P ⊕ whole p ⊗ S n q ⪯ (P ⊕ whole 2) ⊗ S n q →
     Lower P q (whole (p - 2))
 lower-near P q p h n band = at (decLe 2 p)
   where
-    shifted :
-        (a b s t x p : ℕ) →
-        p ≡ x + 2 →
+    shifted : (a b s t x p : ℕ) → p ≡ x + 2 →
         (a * (1 * t) + p * s * b) * (b * 1 * t) ≤ (a * 1 + 2 * b) * s * (b * (1 * t)) →
         (a * (1 * t) + x * s * b) * (b * t) ≤ a * s * (b * (1 * t))
     shifted a b s t x p e h = omega (arith, ap (λ (z : ℕ). z * s * b * b * t) e)
@@ -112,23 +97,8 @@ pub record Filled (P q : Fraction) (p : ℕ) : Type 0 where
   pub over : (v : Fraction) → Lower P q v → v ⪯ whole p
   pub near : Lower P q (whole (p - 2))
 
--- from the pressure's band, and from 0 at the surface
-pub filled :
-    (P q : Fraction) (p : ℕ) →
-    0 < P .bottom →
-    ((n : ℕ) → P ⊗ S n q ⪯ P ⊕ whole p ⊗ S n q) →
-    (n : ℕ) →
-    P ⊕ whole p ⊗ S n q ⪯ (P ⊕ whole 2) ⊗ S n q →
-    Filled P q p
-filled P q p h band n near = record { over = λ v low. lower-below p band low; near = lower-near P q p h n near }
-
-pub filled-zero : (P q : Fraction) → 0 < P .bottom → ((n : ℕ) → P ⊗ S n q ⪯ P ⊕ whole 0 ⊗ S n q) → Filled P q 0
-filled-zero P q h band = record { over = λ v low. lower-below 0 band low; near = lower-zero P q h }
-
 -- a load that rests on one pressure: it suffices to look at fractions at most p, and at p - 2
-pub allowed :
-    {P q : Fraction} {p w load : ℕ} (F : Fraction → Fraction) →
-    Filled P q p →
+pub allowed : {P q : Fraction} {p w load : ℕ} (F : Fraction → Fraction) → Filled P q p →
     ((v : Fraction) → v ⪯ whole p → F v ⪯ whole load) →
     ((v : ℕ) → p ≤ v + 2 → whole load ≺ F (whole v) ⊕ whole w) →
     Allowance (Lower P q) F w load
@@ -140,14 +110,12 @@ allowed {P} {q} {p} F fill above near = record {
 -- from the band of a filling pressure
 pub filled-by-band :
     {k : Kind} {s : Section} {p : Product} {z x : ℕ} → FillingBand (whole 2) k s p z x → Filled (P k s p) (q (factors k) s p z) x
-filled-by-band {k} {s} {p} {z} {x} band = at (decLt 0 z)
+filled-by-band {k} {s} {p} {z} {x} band = record { over = λ v low. lower-below x (band .above) low; near = at (decLt 0 z) }
   where
     proper : 0 < P k s p .bottom
     proper = pos-left _ _ (band .above 0 .left)
 
-    at : Dec (0 < z) → Filled (P k s p) (q (factors k) s p z) x
-    at (yes deep) =
-        filled (P k s p) (q (factors k) s p z) x proper (band .above) (band .close deep .0) (band .close deep .1)
+    at : Dec (0 < z) → Lower (P k s p) (q (factors k) s p z) (whole (x - 2))
+    at (yes deep) = lower-near (P k s p) (q (factors k) s p z) x proper (band .close deep .0) (band .close deep .1)
     at (no surface) =
-        let none : x ≡ 0 = band .surface (omega arith) in
-        rw none (filled-zero (P k s p) (q (factors k) s p z) proper (rw none at (band .above)))
+        let none : x ≡ 0 = band .surface (omega arith) in rw none (lower-zero (P k s p) (q (factors k) s p z) proper)

@@ -1,14 +1,8 @@
--- Formulas over fractions: fractions with equal cross products round alike, and a constant factor keeps the order.
-use Prim.Native.Nat.{ℕ, _*_, _≤_, _<_}
-use mathlib.Core.Path.{_≡_}
+-- Formulas over fractions: whole numbers and a constant factor keep the order.
+use Prim.Native.Nat.{ℕ, _≤_, _<_}
 use native.Mathlib.Omega.{arith}
-use native.Mathlib.Nat.{le-antisymm}
-use Rattle.fraction.specs.Fraction.{Fraction, _⊘_, whole, _⊗_, _⪯_, up}
-use Rattle.fraction.proofs.Order.{same, ⪯-refl, ⊗-mono}
-use Rattle.fraction.proofs.Up.{up-mono}
-
-pub up-same : (a b c d : ℕ) → 0 < b → 0 < d → a * d ≡ c * b → up (a ⊘ b) ≡ up (c ⊘ d)
-up-same a b c d hb hd h = le-antisymm (up-mono (same hb hd h .0)) (up-mono (same hb hd h .1))
+use Rattle.fraction.specs.Fraction.{Fraction, whole, _⊗_, _⪯_}
+use Rattle.fraction.proofs.Order.{⪯-refl, ⊗-mono}
 
 -- whole numbers keep their order as fractions
 pub wholes : {m n : ℕ} → m ≤ n → whole m ⪯ whole n

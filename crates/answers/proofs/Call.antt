@@ -2,15 +2,18 @@
 -- Assumes nothing.
 use Prim.Native.Nat.{ℕ}
 use mathlib.Core.Path.{_≡_, refl, sym, _∙_, subst}
-use mathlib.Core.List.{List}
+use mathlib.Core.List.{List, [], _∷_}
 use native.Mathlib.Omega.{arith}
 use borrow.Author.Tests.{eq-eqb, ne-eqb}
+use lib.Dec.{eqb}
 use lib.ListN.{length}
 use Rattle.janssen.specs.program.Pressure.{computed}
-use Rattle.records.proofs.Tests.{orElse-skip, orElse-stop}
-use Rattle.sheet.specs.Refusal.{refusal-of}
+use Rattle.records.specs.Rules.{_unless_, first-unmet}
+use Rattle.records.proofs.Chain.{stopped, skipped}
+use Rattle.sheet.specs.Refusal.{sheet-rules, refusal-of}
+use Rattle.sheet.proofs.Acceptance.{sheet-numbered}
 use Rattle.answers.specs.Length.{length-due}
-use Rattle.answers.specs.Answers.{Filled, loads-refusal}
+use Rattle.answers.specs.Answers.{Filled, loads-rules}
 use Rattle.answers.specs.Promise.{Promise}
 use Rattle.answers.specs.program.Fill.{answers}
 use Rattle.answers.proofs.Places.{answers-filled}
@@ -18,24 +21,28 @@ use Rattle.answers.proofs.Demand.{claim}
 
 module _ (s lent : List ℕ) where
   -- any refusal leaves the list as it was
-  refused-with : (r : ℕ) → r ≡ loads-refusal s (length lent) → (r ≡ 0 → ⊥) → Promise computed s lent r lent
+  refused-with : (r : ℕ) → r ≡ first-unmet (loads-rules s (length lent)) → (r ≡ 0 → ⊥) → Promise computed s lent r lent
   refused-with r e n = record { answer = e; unchanged = λ _. refl; filled = λ o. absurd (n o); demand = λ o. absurd (n o) }
 
   pub refused : (r : ℕ) → r ≡ refusal-of s → (r ≡ 0 → ⊥) → Promise computed s lent r lent
-  unfolding loads-refusal
-  refused r e n = refused-with r (e ∙ sym (orElse-stop (refusal-of s) _ (λ o. n (e ∙ o)))) n
+  unfolding loads-rules refusal-of
+  refused r e n = refused-with r (e ∙ sym (stopped _ (sheet-rules s) (λ o. n (e ∙ o)))) n
+
+  -- an accepted sheet is left with rule 14
+  last-rule : refusal-of s ≡ 0 → first-unmet (loads-rules s (length lent)) ≡ first-unmet (14 unless eqb (length lent) (length-due s) ∷ [])
+  unfolding loads-rules refusal-of
+  last-rule h = skipped _ (sheet-rules s) (sheet-numbered s) h
 
   pub unfit : refusal-of s ≡ 0 → (length lent ≡ length-due s → ⊥) → Promise computed s lent 14 lent
-  unfolding loads-refusal
-  unfit h n =
-      refused-with 14 (sym (orElse-skip (refusal-of s) _ h ∙ simp (ne-eqb (length lent) (length-due s) n))) (λ o. omega arith)
+  unfolding first-unmet
+  unfit h n = refused-with 14 (sym (last-rule h ∙ simp (ne-eqb (length lent) (length-due s) n))) (λ o. omega arith)
 
   pub filled : (list : List ℕ) → refusal-of s ≡ 0 → length lent ≡ length-due s → list ≡ answers s → Promise computed s lent 0 list
-  unfolding loads-refusal
+  unfolding first-unmet
   filled list h n e =
       let fill : Filled computed s list = subst (Filled computed s) (sym e) (answers-filled s) in
       record {
-        answer = sym (orElse-skip (refusal-of s) _ h ∙ simp (eq-eqb (length lent) (length-due s) n));
+        answer = sym (last-rule h ∙ simp (eq-eqb (length lent) (length-due s) n));
         unchanged = λ o. absurd (o refl);
         filled = λ _. fill;
         demand = λ _. claim s list h fill;

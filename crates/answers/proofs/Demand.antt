@@ -4,48 +4,34 @@
 -- two lists is the order of the named pressures, which have nothing in them but section, product and depth.
 -- Assumes nothing.
 use Prim.Native.Nat.{ℕ, zero, suc, _+_, _-_, _≤_, _<_}
-use mathlib.Core.Bool.{true, false≢true}
-use mathlib.Core.Path.{_≡_, refl, ap, sym, subst}
+use mathlib.Core.Path.{_≡_, sym, subst}
 use mathlib.Core.List.{List}
 use mathlib.Core.Logic.{⊎-elim}
+use native.Mathlib.Nat.{add-zero, add-suc, le-antisymm}
 use native.Mathlib.Omega.{arith}
 use lib.ListN.{length}
-use Rattle.janssen.proofs.FillingLaws.{filling-rises}
-use Rattle.janssen.proofs.WallLoadOrder.{wall-load-rises}
-use Rattle.janssen.specs.Filling.{Kind}
-use Rattle.janssen.specs.Filling.Kind.{horizontal, vertical, wall-friction}
-use Rattle.janssen.specs.program.Range.{InRange, InDepth}
-use Rattle.janssen.specs.program.Pressure.{filling, wall-load, computed}
+use Rattle.janssen.specs.program.Range.{InRange}
+use Rattle.janssen.specs.program.Pressure.{computed}
 use Rattle.records.specs.Format.{place, payload-length}
 use Rattle.description.specs.Silo.{section-of, product-of, bottom-of, depth-count, strakes-of, edge-of, V-of}
 use Rattle.description.proofs.Sums.{sum-under}
 use Rattle.sheet.specs.Refusal.{refusal-of}
 use Rattle.sheet.specs.Accepted.{Accepted}
 use Rattle.sheet.proofs.Acceptance.{accepted}
-use Rattle.sheet.proofs.Described.{edge-most, V-most, V-slender, d-c-most, product-range}
+use Rattle.sheet.proofs.Described.{edge-most, V-most, V-slender, in-range, factor-in}
+use Rattle.loads.specs.declared.Silo.{Silo}
 use Rattle.loads.specs.Load.{Load}
-use Rattle.loads.specs.Load.{Silo, load-depth, number}
-use Rattle.loads.specs.Load.Load.{listed-depth, p-hf, p-wf, p-vf, P-w, p-he, p-we, p-p}
+use Rattle.loads.specs.Load.{OfFilling, load-depth, number}
+use Rattle.loads.specs.Load.Load.{p-he}
 use Rattle.loads.specs.Holds.{Holds}
 use Rattle.loads.specs.program.Basis.{Reached, Fits}
-use Rattle.loads.proofs.RowLaws.{load-depth-most, holds, rises, bottom-holds}
+use Rattle.janssen.proofs.Geometry.{d-c-most}
+use Rattle.loads.proofs.LoadLaws.{load-depth-most, filling-more, holds, rises, bottom-holds}
 use Rattle.answers.specs.Answers.{silo-of, depth, bottom-in, Filled}
-use Rattle.answers.specs.Claim.{of-filling, SameSectionAndProduct, Claim}
+use Rattle.answers.specs.Claim.{SameSectionAndProduct, Claim}
 use Rattle.answers.proofs.SameRecords.{same-section, same-product}
 
 module _ (s : List ℕ) (a : Accepted s) where
-  pub in-range : InRange (section-of s) (product-of s)
-  in-range =
-      let v = a .values in
-      let p = product-range s a in
-      record {
-        a-in = record { least = v .a-least; most = v .a-most };
-        b-in = record { least = v .b-least; most = v .b-most };
-        γ-in = record { least = p .weight-least; most = p .weight-most };
-        Ks-in = record { least = p .ratio-least; most = p .ratio-most };
-        μ-in = record { least = p .friction-least; most = p .friction-most };
-      }
-
   -- every depth at most at the wall's foot
   pub reached : (x : ℕ) → x ≤ V-of s → Reached (silo-of s) x
   reached x h =
@@ -63,14 +49,14 @@ module _ (s : List ℕ) (a : Accepted s) where
   -- H and r are at most 25,000
   bottom-fits : (bottom-of s .height ≤ 25000) × (bottom-of s .run ≤ 25000)
   bottom-fits =
-      ⊎-elim (λ o. (omega (arith, o .0), omega (arith, o .1))) (λ x. (x .height-most, omega (arith, x .run-narrow, d-c-most s a)))
+      ⊎-elim (λ o. (omega (arith, o .0), omega (arith, o .1))) (λ x. (x .height-most, omega (arith, x .run-narrow, d-c-most (section-of s) (product-of s) (in-range s a))))
       (a .values .bottom-shape)
 
   pub silo-fits : Fits (silo-of s)
   silo-fits =
       record {
-        range = in-range;
-        factor-most = product-range s a .factor-most;
+        range = in-range s a;
+        factor-most = factor-in s a .most;
         eccentricity-most = omega (arith, a .values .inlet-most, a .values .outlet-most);
         height-most = bottom-fits .0;
         run-most = bottom-fits .1;
@@ -79,12 +65,8 @@ module _ (s : List ℕ) (a : Accepted s) where
 
   -- the listed depths rise
   depths-rise : (i n : ℕ) → i + n < depth-count s → depth s i ≤ depth s (i + n)
-  depths-rise i zero h =
-      let e : depth s (i + 0) ≡ depth s i = ap (depth s) (omega arith) in
-      omega (arith, e)
-  depths-rise i (suc n) h =
-      let e : depth s (i + suc n) ≡ depth s (suc (i + n)) = ap (depth s) (omega arith) in
-      omega (arith, depths-rise i n (omega arith), a .depths-rise (i + n) (omega arith), e)
+  depths-rise i zero h = rw add-zero (omega arith)
+  depths-rise i (suc n) h = rw add-suc (omega (arith, depths-rise i n (omega arith), a .depths-rise (i + n) (omega arith)))
 
   depths-down : (i j : ℕ) → i ≤ j → j < depth-count s → depth s i ≤ depth s j
   depths-down i j h g =
@@ -111,41 +93,11 @@ module _ (s s' : List ℕ) (a : Accepted s) (a' : Accepted s') (e : SameSectionA
   product-equal : product-of s ≡ product-of s'
   product-equal = same-product s s' (two-records s a) (two-records s' a') e section-length (a .layout .product-length)
 
-  pressure-same : (k : Kind) (x y : ℕ) → x ≡ y → filling k (section-of s) (product-of s) x ≡ filling k (section-of s') (product-of s') y
-  pressure-same k x y g = rw (section-equal, product-equal, g) refl
-
-  load-same : (x y : ℕ) → x ≡ y → wall-load (section-of s) (product-of s) x ≡ wall-load (section-of s') (product-of s') y
-  load-same x y g = rw (section-equal, product-equal, g) refl
-
-  pressure-more : (k : Kind) (x y : ℕ) → InDepth (section-of s') y → x ≤ y → filling k (section-of s) (product-of s) x ≤ filling k (section-of s') (product-of s') y
-  pressure-more k x y d g = rw (section-equal, product-equal) (filling-rises k (section-of s') (product-of s') x y (in-range s' a') d g)
-
-  load-more : (x y : ℕ) → InDepth (section-of s') y → x ≤ y → wall-load (section-of s) (product-of s) x ≤ wall-load (section-of s') (product-of s') y
-  load-more x y d g = rw (section-equal, product-equal) (wall-load-rises (section-of s') (product-of s') x y (in-range s' a') d g)
-
-  -- a load of filling is that of the other silo, at the same depth below the surface
-  number-same : (l : Load) → of-filling l ≡ true → (x y : ℕ) → load-depth (silo-of s) x ≡ load-depth (silo-of s') y
-      → number computed (silo-of s) l x ≡ number computed (silo-of s') l y
-  number-same p-hf o x y g = pressure-same horizontal _ _ g
-  number-same p-wf o x y g = pressure-same wall-friction _ _ g
-  number-same p-vf o x y g = pressure-same vertical _ _ g
-  number-same P-w o x y g = load-same _ _ g
-  number-same listed-depth o x y g = absurd (false≢true o)
-  number-same p-he o x y g = absurd (false≢true o)
-  number-same p-we o x y g = absurd (false≢true o)
-  number-same p-p o x y g = absurd (false≢true o)
-
-  -- and no smaller at a greater one
-  number-more : (l : Load) → of-filling l ≡ true → (x y : ℕ) → Reached (silo-of s') y → load-depth (silo-of s) x ≤ load-depth (silo-of s') y
-      → number computed (silo-of s) l x ≤ number computed (silo-of s') l y
-  number-more p-hf o x y d g = pressure-more horizontal _ _ d g
-  number-more p-wf o x y d g = pressure-more wall-friction _ _ d g
-  number-more p-vf o x y d g = pressure-more vertical _ _ d g
-  number-more P-w o x y d g = load-more _ _ d g
-  number-more listed-depth o x y d g = absurd (false≢true o)
-  number-more p-he o x y d g = absurd (false≢true o)
-  number-more p-we o x y d g = absurd (false≢true o)
-  number-more p-p o x y d g = absurd (false≢true o)
+  -- a load of filling of the other silo is no smaller at a greater depth below the surface
+  number-more : {l : Load} → OfFilling l → (i j : ℕ) → j < depth-count s' → load-depth (silo-of s) (depth s i) ≤ load-depth (silo-of s') (depth s' j)
+      → number computed (silo-of s) l (depth s i) ≤ number computed (silo-of s') l (depth s' j)
+  number-more o i j n g =
+      filling-more (silo-of s) (silo-of s') section-equal product-equal (silo-fits s' a') o (depth s i) (depth s' j) (depth-reached s' a' j n) g
 
 -- demand 3
 pub claim : (s list : List ℕ) → refusal-of s ≡ 0 → Filled computed s list → Claim computed s list
@@ -168,10 +120,12 @@ claim s list h fill =
       ordered =
           λ s' list' left e l o i j g n.
           let a' : Accepted s' = accepted s' (left .accepted) in
+          let up = number-more s s' a a' e o i j n in
+          let down = number-more s' s a' a (sym e) o j i g in
           rw (fill .at-depths l i g, left .filled .at-depths l j n)
           (record {
-            rises = number-more s s' a a' e l o (depth s i) (depth s' j) (depth-reached s' a' j n);
-            falls = number-more s' s a' a (sym e) l o (depth s' j) (depth s i) (depth-reached s a i g);
-            same = number-same s s' a a' e l o (depth s i) (depth s' j);
+            rises = up;
+            falls = down;
+            same = λ m. le-antisymm (up (omega arith)) (down (omega arith));
           });
     }

@@ -1,10 +1,8 @@
 pub mod LengthLaws
+pub mod Stores
 pub mod Places
 pub mod SameRecords
-pub mod Stores
 pub mod Demand
 pub mod Edges
-pub mod Depths
 pub mod Whole
 pub mod Call
-pub mod Across

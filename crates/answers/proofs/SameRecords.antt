@@ -8,7 +8,7 @@ use native.Mathlib.Omega.{arith}
 use lib.ListN.{length, getD, take}
 use lib.Seq.{getD-take, length-take-le}
 use Rattle.records.specs.Format.{u16, u32, place, payload-length, kind, payload}
-use Rattle.description.specs.Silo.{section-of, product-sent, product-read, product-of}
+use Rattle.description.specs.Silo.{section-of, product-sent, product-of}
 
 module _ (s s' : List ℕ) (m : ℕ) (same : (i : ℕ) → i < m → getD s i 0 ≡ getD s' i 0) where
   u16-same : (at : ℕ) → at + 1 < m → u16 s at ≡ u16 s' at
@@ -66,5 +66,4 @@ module _ (s s' : List ℕ) (h : place s 2 ≤ length s) (h' : place s' 2 ≤ len
   pub same-product : product-of s ≡ product-of s'
   unfolding product-of
   same-product =
-      ap product-read
-      (product-same s s' (place s 2) (bytes-same s s' (place s 2) (place s' 2) h h' e) (omega (arith, second-place)) first-place)
+      rw (product-same s s' (place s 2) (bytes-same s s' (place s 2) (place s' 2) h h' e) (omega (arith, second-place)) first-place)

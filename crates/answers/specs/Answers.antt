@@ -1,16 +1,17 @@
 -- The answer list: each of its numbers, and what the load call answers. Document 01, "Sheet", "Answer list" and "Who can be refused".
 use Prim.Native.Nat.{ℕ, suc, _<_, max}
 use mathlib.Core.Path.{_≡_}
-use mathlib.Core.List.{List}
+use mathlib.Core.List.{List, [], _∷_, _++_}
 use lib.Dec.{eqb}
 use lib.ListN.{length, getD}
-use Rattle.records.specs.Rules.{must, orElse}
+use Rattle.records.specs.Rules.{Rule, _unless_}
 use Rattle.janssen.specs.Numbers.{FillingNumbers}
 use Rattle.description.specs.Silo.{section-of, product-of, eccentricities-of, bottom-of, depths-of, depth-count, strake-count, edge-of, V-of}
-use Rattle.sheet.specs.Refusal.{refusal-of}
+use Rattle.sheet.specs.Refusal.{sheet-rules}
 use Rattle.answers.specs.Length.{length-due}
+use Rattle.loads.specs.declared.Silo.{Silo}
 use Rattle.loads.specs.Load.{Load}
-use Rattle.loads.specs.Load.{Silo, number, bottom-numbers}
+use Rattle.loads.specs.Load.{number, bottom-numbers}
 use Rattle.loads.specs.Load.Load.{p-he}
 use Rattle.answers.specs.Place.{load-place, bottom-place, strake-place}
 
@@ -48,6 +49,6 @@ pub record Filled (f : FillingNumbers) (s list : List ℕ) : Type 0 where
   -- p_he at the strake's lower edge
   pub at-strakes : (k : ℕ) → k < strake-count s → strake-in s list k ≡ number f (silo-of s) p-he (edge-of s (suc k))
 
--- what the load call answers, lent a list of so many numbers: 0, or the first refusal, 14 last
-unfoldable pub loads-refusal : List ℕ → ℕ → ℕ
-loads-refusal s n = orElse (refusal-of s) (must (eqb n (length-due s)) 14)
+-- the rules of the load call, lent a list of so many numbers: those of the sheet, then 14
+unfoldable pub loads-rules : List ℕ → ℕ → List Rule
+loads-rules s n = sheet-rules s ++ (14 unless eqb n (length-due s) ∷ [])

@@ -1,7 +1,6 @@
 -- Demand 3, one claim about the whole list that the load call leaves for an accepted sheet, and about any two such lists.
 -- Document 01, "Filling" and "Loads made from filling".
 use Prim.Native.Nat.{ℕ, suc, _≤_, _<_}
-use mathlib.Core.Bool.{Bool, true, false}
 use mathlib.Core.Path.{_≡_}
 use mathlib.Core.List.{List}
 use lib.ListN.{length, take}
@@ -11,21 +10,10 @@ use Rattle.description.specs.Silo.{strake-count, depth-count, edge-of}
 use Rattle.sheet.specs.Refusal.{refusal-of}
 use Rattle.answers.specs.Length.{length-due}
 use Rattle.loads.specs.Load.{Load}
-use Rattle.loads.specs.Load.{load-depth}
-use Rattle.loads.specs.Load.Load.{listed-depth, p-hf, p-wf, p-vf, P-w, p-he, p-we, p-p}
+use Rattle.loads.specs.Load.{OfFilling, load-depth}
+use Rattle.loads.specs.Load.Load.{p-he}
 use Rattle.loads.specs.Holds.{Holds, BottomHolds}
 use Rattle.answers.specs.Answers.{silo-of, depth, load-in, bottom-in, strake-in, Filled}
-
--- the loads that are set by section, product and depth alone
-abbrev pub of-filling : Load → Bool
-of-filling p-hf = true
-of-filling p-wf = true
-of-filling p-vf = true
-of-filling P-w = true
-of-filling listed-depth = false
-of-filling p-he = false
-of-filling p-we = false
-of-filling p-p = false
 
 -- a list that the call left for an accepted sheet
 pub record LeftFor (f : FillingNumbers) (s list : List ℕ) : Type 0 where
@@ -55,6 +43,6 @@ pub record Claim (f : FillingNumbers) (s list : List ℕ) : Type 0 where
   pub down : (l : Load) (i j : ℕ) → i ≤ j → j < depth-count s → load-in s list l i ≤ load-in s list l j
   pub strakes-down : (k m : ℕ) → k ≤ m → m < strake-count s → strake-in s list k ≤ strake-in s list m
   -- between any depth of this list and any of any list, left for a sheet with the same section and product
-  pub ordered : (s' list' : List ℕ) → LeftFor f s' list' → SameSectionAndProduct s s' → (l : Load) → of-filling l ≡ true → (i j : ℕ)
+  pub ordered : (s' list' : List ℕ) → LeftFor f s' list' → SameSectionAndProduct s s' → (l : Load) → OfFilling l → (i j : ℕ)
       → i < depth-count s → j < depth-count s'
       → Ordered (load-depth (silo-of s) (depth s i)) (load-depth (silo-of s') (depth s' j)) (load-in s list l i) (load-in s' list' l j)

@@ -1,5 +1,4 @@
--- Where a number stands in the answer list. Document 01, "Answer list": for each depth its eight numbers, then ten for the bottom, then one a
--- strake. Nothing else knows the order.
+-- Where a number stands in the answer list, which nothing else knows. Document 01, "Answer list".
 use Prim.Native.Nat.{ℕ, _+_, _*_}
 use Rattle.loads.specs.Load.{Load}
 use Rattle.loads.specs.Load.Load.{listed-depth, p-hf, p-wf, p-vf, P-w, p-he, p-we, p-p}
@@ -26,7 +25,3 @@ bottom-place n k = 8 * n + k
 -- the strake k, counted from 0
 abbrev pub strake-place : ℕ → ℕ → ℕ
 strake-place n k = 8 * n + 10 + k
-
--- the list ends where one strake more would stand
-abbrev pub list-length : ℕ → ℕ → ℕ
-list-length n strakes = strake-place n strakes

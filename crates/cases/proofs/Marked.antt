@@ -1,10 +1,11 @@
 -- The marked cases of document 01. The numbers and the cases on one sheet are computed; a case that names h holds for any
 -- sheet of that h, since the first refusal is then that of the shape.
-use Prim.Native.Nat.{ℕ}
+use Prim.Native.Nat.{ℕ, _*_}
 use native.Mathlib.Omega.{arith}
-use lib.Dec.{lit<, ltb→lt}
-use mathlib.Core.List.{List}
-use mathlib.Core.Path.{_≡_, refl, ap}
+use lib.Dec.{ltb, leb, lit<, ltb→lt, leb→le}
+use lib.ListN.{take, drop, replicate}
+use mathlib.Core.List.{List, [], _∷_}
+use mathlib.Core.Path.{_≡_, refl, ap, _∙_}
 use Rattle.fraction.specs.Fraction.{up}
 use Rattle.exponential.specs.program.Table.{table}
 use Rattle.exponential.specs.program.Lower.{lower, between, denominator, entry}
@@ -14,21 +15,28 @@ use Rattle.janssen.specs.program.Range.{InRange, InDepth}
 use Rattle.janssen.specs.Section.{side-a, side-b, d-c, R}
 use Rattle.janssen.specs.Filling.{Ks, μ, z0, q, γR, P, D, N}
 use Rattle.janssen.specs.program.Pressure.{step, limit, decay, pressure, filling, z0-scaled, loaded-depth, load, wall-load, computed}
-use Rattle.discharge.specs.Discharge.{discharge-load, patch-load}
+use Rattle.discharge.specs.Discharge.{magnified-load, patch-load}
 use Rattle.loads.specs.Load.{Load}
 use Rattle.loads.specs.Load.{load-depth, C-h, C-w, number}
 use Rattle.loads.specs.Load.Load.{listed-depth, p-hf, p-wf, p-vf, P-w, p-he, p-we, p-p}
-use Rattle.records.specs.Format.{u16, u32, numbers, place, kind, payload, payload-length, due, allowed, record-rule, records-rule, layout-rule}
-use Rattle.description.specs.Silo.{section-of, product-sent, product-read, product-of, factor-read, eccentricities-of, bottom-of, strake-count, strakes-of, depth-count, depths-of, sum, V-of, h-of}
-use Rattle.sheet.specs.Refusal.{sides-rule, product-rule, eccentricities-rule, flat, hopper, bottom-rule, strakes-within, strakes-rule, rising, depths-rule, shape-rule, values-rule, refusal-of}
-use Rattle.cases.specs.Cases.{case-sheet, case-product, case-silo, middle-number, UpToEleven, Marked}
+use Rattle.records.specs.Format.{u16, u32, numbers, place, kind, payload, payload-length, allowed, record-rules, records-rules, layout-rules}
+use Rattle.records.specs.Rules.{_unless_, first-unmet}
+use Rattle.records.proofs.Chain.{apart, skipped}
+use Rattle.description.specs.Silo.{section-of, product-sent, product-of, factor-read, eccentricities-of, bottom-of, strake-count, strakes-of, depth-count, depths-of, sum, V-of, h-of}
+use Rattle.sheet.specs.Refusal.{sides-met, strakes-met, depths-met, value-rules, sheet-rules, refusal-of}
+use Rattle.sheet.proofs.Layouts.{layout-numbered}
+use Rattle.cases.specs.Cases.{case-sheet, case-product, case-silo, middle-number, OfHeight, Marked}
 use Rattle.cases.proofs.Pairs.{filling-pair, wall-load-pair}
+use Rattle.cases.proofs.Factor.{acts-as-135}
 
-by-shape : (s : List ℕ) (h : ℕ) → UpToEleven s → h-of s ≡ h → refusal-of s ≡ shape-rule 5000 h
-unfolding refusal-of values-rule
-by-shape s h u e =
-    simp
-    (u .width, u .layout, u .sides, u .product, u .eccentricities, u .bottom, u .strakes, u .depths, e)
+-- the rules before 12 are passed over, and the shape is judged by h alone
+by-shape : (h : ℕ) (s : List ℕ) → OfHeight h s → refusal-of s ≡ first-unmet (12 unless ltb h 50000 ∷ 13 unless leb 15000 (2 * h) ∷ [])
+unfolding refusal-of sheet-rules value-rules
+by-shape h s u =
+    let shape = drop 6 (value-rules s) in
+    let p = apart (take 6 (value-rules s)) (layout-rules s) (layout-numbered s) (u .before) in
+    let q = skipped shape (take 6 (value-rules s)) refl (p .1) in
+    skipped (value-rules s) (layout-rules s) (layout-numbered s) (p .0) ∙ q ∙ simp (u .width, u .height)
 
 in-range : InRange (Circle 5000) case-product
 unfolding side-a side-b
@@ -45,7 +53,7 @@ unfolding d-c side-a side-b
 in-depth = record { slender = omega arith; wall = omega arith }
 
 surface : (l : Load) → number computed case-silo l 0 ≡ 0
-unfolding load-depth D N discharge-load patch-load filling pressure wall-load load loaded-depth z0-scaled decay limit step P q z0 γR R Ks μ up lower between denominator entry table side-a side-b d-c
+unfolding load-depth D N magnified-load patch-load filling pressure wall-load load loaded-depth z0-scaled decay limit step P q z0 γR R Ks μ up lower between denominator entry table side-a side-b d-c
 surface listed-depth = refl
 surface p-hf = refl
 surface p-wf = refl
@@ -56,7 +64,7 @@ surface p-we = refl
 surface p-p = refl
 
 middle : (l : Load) → number computed case-silo l 5000 ≡ middle-number l
-unfolding load-depth D N discharge-load patch-load filling pressure wall-load load loaded-depth z0-scaled decay limit step P q z0 γR R Ks μ up lower between denominator entry table side-a side-b d-c
+unfolding load-depth D N magnified-load patch-load filling pressure wall-load load loaded-depth z0-scaled decay limit step P q z0 γR R Ks μ up lower between denominator entry table side-a side-b d-c
 middle listed-depth = refl
 middle p-hf = refl
 middle p-wf = refl
@@ -67,23 +75,24 @@ middle p-we = refl
 middle p-p = refl
 
 pub marked : Marked computed
-unfolding load-depth D N discharge-load patch-load filling pressure wall-load load loaded-depth z0-scaled decay limit step P q z0 γR R Ks μ up lower between denominator entry table case-sheet refusal-of values-rule layout-rule records-rule record-rule due allowed place payload payload-length kind u16 u32 numbers section-of product-sent eccentricities-of bottom-of strake-count strakes-of depth-count depths-of sum V-of h-of sides-rule product-rule eccentricities-rule flat hopper bottom-rule strakes-within strakes-rule rising depths-rule shape-rule side-a side-b d-c product-of product-read factor-read
+unfolding load-depth D N magnified-load patch-load filling pressure wall-load load loaded-depth z0-scaled decay limit step P q z0 γR R Ks μ up lower between denominator entry table case-sheet refusal-of value-rules sheet-rules first-unmet layout-rules records-rules record-rules allowed place payload payload-length kind u16 u32 numbers section-of product-sent eccentricities-of bottom-of strake-count strakes-of depth-count depths-of sum V-of h-of sides-met strakes-met depths-met side-a side-b d-c product-of factor-read
 marked =
     record {
-      deep-limit = refl;
+      described = refl;
+      deep-limit = (record { left = lit< tt; right = lit< tt; order = leb→le _ _ tt }, record { left = lit< tt; right = lit< tt; order = leb→le _ _ tt });
       surface = surface;
       horizontal-pair = λ p band. filling-pair horizontal (Circle 5000) case-product 5000 in-range in-depth (lit< tt) 17596 p (ltb→lt _ _ tt) (ltb→lt _ _ tt) band;
       friction-pair = λ p band. filling-pair wall-friction (Circle 5000) case-product 5000 in-range in-depth (lit< tt) 7344 p (ltb→lt _ _ tt) (ltb→lt _ _ tt) band;
       vertical-pair = λ p band. filling-pair vertical (Circle 5000) case-product 5000 in-range in-depth (lit< tt) 33118 p (ltb→lt _ _ tt) (ltb→lt _ _ tt) band;
       wall-load-pair = λ w band. wall-load-pair (Circle 5000) case-product 5000 in-range in-depth 21540 w (ltb→lt _ _ tt) (ltb→lt _ _ tt) band;
-      discharge = λ g e. ap (discharge-load (C-h case-silo)) e;
-      patch = λ g e. ap (λ (x : ℕ). patch-load 0 (d-c (Circle 5000)) (discharge-load (C-h case-silo) x)) e;
-      friction-discharge = λ g e. ap (discharge-load (C-w case-silo)) e;
+      discharge = λ g e. ap (magnified-load (C-h case-silo)) e;
+      patch = λ g e. ap (λ (x : ℕ). patch-load 0 (d-c (Circle 5000)) (magnified-load (C-h case-silo) x)) e;
+      friction-discharge = λ g e. ap (magnified-load (C-w case-silo)) e;
       middle = middle;
-      h-7500 = λ s u e. by-shape s 7500 u e;
-      h-7499 = λ s u e. by-shape s 7499 u e;
-      h-49999 = λ s u e. by-shape s 49999 u e;
-      h-50000 = λ s u e. by-shape s 50000 u e;
+      h-7500 = record { every = by-shape 7500; some = (2500 ∷ 2500 ∷ 2500 ∷ [], record { before = refl; width = refl; height = refl }) };
+      h-7499 = record { every = by-shape 7499; some = (2500 ∷ 2500 ∷ 2499 ∷ [], record { before = refl; width = refl; height = refl }) };
+      h-49999 = record { every = by-shape 49999; some = (1999 ∷ replicate 16 3000, record { before = refl; width = refl; height = refl }) };
+      h-50000 = record { every = by-shape 50000; some = (2000 ∷ replicate 16 3000, record { before = refl; width = refl; height = refl }) };
       e-1250 = refl;
       e-1251 = refl;
       H-364 = refl;
@@ -91,7 +100,7 @@ marked =
       friction-10 = refl;
       friction-9 = refl;
       friction-0 = refl;
-      factor-0 = refl;
-      factor-135 = refl;
       factor-99 = refl;
+      factor-0 = refl;
+      factor-135 = acts-as-135 computed;
     }

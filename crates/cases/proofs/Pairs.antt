@@ -12,7 +12,7 @@ use Rattle.exponential.specs.Series.{S}
 use Rattle.exponential.proofs.SeriesLaws.{S-one}
 use Rattle.janssen.specs.declared.Section.{Section}
 use Rattle.janssen.specs.declared.Product.{Product}
-use Rattle.janssen.specs.Filling.{Kind, factors, wall-load-factors, q, P, D, N}
+use Rattle.janssen.specs.Filling.{Kind, factors, q, P, D, N}
 use Rattle.janssen.specs.Filling.Kind.{wall-friction}
 use Rattle.janssen.specs.Band.{FillingBand, WallLoadBand}
 use Rattle.janssen.specs.program.Pressure.{step, decay}
@@ -105,12 +105,12 @@ module _ (s : Section) (p : Product) (z : ℕ) (i : InRange s p) (d : InDepth s 
       → WallLoadBand s p z n → (n ≡ m + 1) ⊎ (n ≡ m + 2)
   wall-load-pair m n low high band =
       let r = decay-reaches wall-friction s p i z d in
-      let e = S-one (r .0) (q wall-load-factors s p z) (q-pos s p i wall-friction z) in
+      let e = S-one (r .0) (q (factors wall-friction) s p z) (q-pos s p i wall-friction z) in
       let f = band .close (r .0) in
       let c = band .above in
-      let g = S-one (c .0) (q wall-load-factors s p z) (q-pos s p i wall-friction z) in
+      let g = S-one (c .0) (q (factors wall-friction) s p z) (q-pos s p i wall-friction z) in
       let u : D-top * N-bottom * E-wall + 2 ^ 40 * (N-top * D-bottom) ≤ 2 ^ 40 * ((n * D-bottom + D-top) * N-bottom) =
-      load-least D-top D-bottom N-top N-bottom (S (c .0) (q wall-load-factors s p z) .top) (S (c .0) (q wall-load-factors s p z) .bottom) E-wall n (pos-left _ _ (c .1 .left)) (omega (arith, g .right, g .order)) (g .right) (omega (arith, decay-below wall-friction s p i z d (c .0) .order)) (c .1 .order) in
+      load-least D-top D-bottom N-top N-bottom (S (c .0) (q (factors wall-friction) s p z) .top) (S (c .0) (q (factors wall-friction) s p z) .bottom) E-wall n (pos-left _ _ (c .1 .left)) (omega (arith, g .right, g .order)) (g .right) (omega (arith, decay-below wall-friction s p i z d (c .0) .order)) (c .1 .order) in
       let v : 2 ^ 40 * ((n * D-bottom + D-top) * N-bottom) ≤ D-top * N-bottom * (E-wall + 512) + 2 ^ 40 * ((N-top + 2 * N-bottom) * D-bottom) =
-      load-most D-top D-bottom N-top N-bottom (S (r .0) (q wall-load-factors s p z) .top) (S (r .0) (q wall-load-factors s p z) .bottom) (E-wall + 512) n (pos-left _ _ (c .1 .left)) (omega (arith, e .right, e .order)) (e .right) (omega (arith, r .1 .order)) (f .order) in
+      load-most D-top D-bottom N-top N-bottom (S (r .0) (q (factors wall-friction) s p z) .top) (S (r .0) (q (factors wall-friction) s p z) .bottom) (E-wall + 512) n (pos-left _ _ (c .1 .left)) (omega (arith, e .right, e .order)) (e .right) (omega (arith, r .1 .order)) (f .order) in
       left m n (under m n (D-bottom * N-bottom) (omega (arith, low, u))) (under n (m + 3) (D-bottom * N-bottom) (omega (arith, high, v)))

@@ -1,61 +1,57 @@
 -- Document 01, "Cases": those marked (m), as one statement. A circle of 5,000, γ 9,000, Ks 50, depths 0 and 5,000.
-use Prim.Native.Nat.{ℕ, _*_, _/_, _%_}
+use Prim.Native.Nat.{ℕ}
 use mathlib.Core.List.{List, [], _∷_, _++_}
 use mathlib.Core.Logic.{_⊎_}
 use mathlib.Core.Path.{_≡_}
-use lib.ListN.{length}
+use lib.ListN.{take}
+use Rattle.fraction.specs.Fraction.{whole, _⪯_}
 use Rattle.janssen.specs.Section.{d-c}
 use Rattle.janssen.specs.declared.Section.the-variants.{Circle}
 use Rattle.janssen.specs.declared.Product.{Product}
 use Rattle.janssen.specs.Filling.{P}
 use Rattle.janssen.specs.Filling.Kind.{horizontal}
 use Rattle.janssen.specs.Numbers.{FillingNumbers}
-use Rattle.records.specs.Format.{layout-rule}
-use Rattle.description.specs.Silo.{section-of, product-sent, product-of, eccentricities-of, bottom-of, strakes-of, depths-of, V-of, h-of}
+use Rattle.records.specs.Rules.{first-unmet}
+use Rattle.records.specs.Format.{two-bytes, four-bytes, record-bytes, layout-rules}
+use Rattle.description.specs.Silo.{section-of, h-of}
+use Rattle.loads.specs.declared.Silo.{Silo}
 use Rattle.loads.specs.Load.{Load}
-use Rattle.loads.specs.Load.{Silo, number}
+use Rattle.loads.specs.Load.{number}
 use Rattle.loads.specs.Load.Load.{listed-depth, p-hf, p-wf, p-vf, P-w, p-he, p-we, p-p}
 use Rattle.loads.specs.Holds.{Holds}
-use Rattle.sheet.specs.Refusal.{sides-rule, product-rule, eccentricities-rule, bottom-rule, strakes-rule, depths-rule, refusal-of}
+use Rattle.sheet.specs.Refusal.{value-rules, refusal-of}
+use Rattle.answers.specs.Answers.{silo-of}
+use Rattle.answers.specs.Promise.{Promise}
 
-abbrev pub two-bytes : ℕ → List ℕ
-two-bytes n = n % 256 ∷ n / 256 % 256 ∷ []
-
-abbrev pub four-bytes : ℕ → List ℕ
-four-bytes n = two-bytes n ++ two-bytes (n / 65536)
-
+-- a payload of strakes
 abbrev pub heights : List ℕ → List ℕ
 heights [] = []
 heights (x ∷ l) = two-bytes x ++ heights l
 
--- the length of the payload, the kind, the payload
-abbrev pub a-record : ℕ → List ℕ → List ℕ
-a-record t l = two-bytes (length l) ++ two-bytes t ++ l
-
 -- the sheet with μ, C0, e_i, H, r and the strakes given
 unfoldable pub case-sheet : ℕ → ℕ → ℕ → ℕ → ℕ → List ℕ → List ℕ
 case-sheet friction factor e H r strakes =
-    a-record 1 (four-bytes 5000)
-    ++ a-record 3 (four-bytes 9000 ++ two-bytes 50 ++ two-bytes friction ++ two-bytes factor)
-    ++ a-record 4 (four-bytes e ++ four-bytes 0)
-    ++ a-record 5 (four-bytes H ++ four-bytes r)
-    ++ a-record 6 (heights strakes)
-    ++ a-record 7 (four-bytes 0 ++ four-bytes 5000)
+    record-bytes 1 (four-bytes 5000)
+    ++ record-bytes 3 (four-bytes 9000 ++ two-bytes 50 ++ two-bytes friction ++ two-bytes factor)
+    ++ record-bytes 4 (four-bytes e ++ four-bytes 0)
+    ++ record-bytes 5 (four-bytes H ++ four-bytes r)
+    ++ record-bytes 6 (heights strakes)
+    ++ record-bytes 7 (four-bytes 0 ++ four-bytes 5000)
 
 -- five strakes of 2,000
 abbrev pub five : List ℕ
 five = 2000 ∷ 2000 ∷ 2000 ∷ 2000 ∷ 2000 ∷ []
 
--- a sheet that no rule before 12 refuses, with d_c = 5,000
-pub record UpToEleven (s : List ℕ) : Type 0 where
-  pub layout : layout-rule s ≡ 0
-  pub sides : sides-rule (section-of s) ≡ 0
-  pub product : product-rule (product-sent s) ≡ 0
-  pub eccentricities : eccentricities-rule 5000 (eccentricities-of s) ≡ 0
-  pub bottom : bottom-rule 5000 (bottom-of s) ≡ 0
-  pub strakes : strakes-rule (strakes-of s) ≡ 0
-  pub depths : depths-rule (V-of s) 0 (depths-of s) ≡ 0
+-- a sheet of that h with d_c = 5,000 that no rule before 12 refuses: 1 to 5 on its records, and the first six on its values
+pub record OfHeight (h : ℕ) (s : List ℕ) : Type 0 where
+  pub before : first-unmet (layout-rules s ++ take 6 (value-rules s)) ≡ 0
   pub width : d-c (section-of s) ≡ 5000
+  pub height : h-of s ≡ h
+
+-- what every sheet of that h gets; some strakes make up that h
+pub record HeightGives (h answer : ℕ) : Type 0 where
+  pub every : (s : List ℕ) → OfHeight h s → refusal-of s ≡ answer
+  pub some : (strakes : List ℕ) × OfHeight h (case-sheet 40 140 0 0 0 strakes)
 
 -- γ 9,000, Ks 50, μ 40, C0 140
 abbrev pub case-product : Product
@@ -78,8 +74,10 @@ middle-number p-p = 4928
 
 -- f names the filling pressures and P_w, as in the load call's promise
 pub record Marked (f : FillingNumbers) : Type 0 where
+  -- the silo that the sheet of the cases describes
+  pub described : silo-of (case-sheet 40 140 0 0 0 five) ≡ case-silo
   -- P for p_hf is 31,250
-  pub deep-limit : P horizontal (Circle 5000) case-product .top ≡ 31250 * P horizontal (Circle 5000) case-product .bottom
+  pub deep-limit : (P horizontal (Circle 5000) case-product ⪯ whole 31250) × (whole 31250 ⪯ P horizontal (Circle 5000) case-product)
   -- z = 0 gives 0
   pub surface : (l : Load) → number f case-silo l 0 ≡ 0
   -- z = 5,000, any number inside its band: p_hf 17,597 or 17,598; p_wf 7,345 or 7,346; p_vf 33,119 or 33,120; P_w 21,541 or 21,542
@@ -94,19 +92,21 @@ pub record Marked (f : FillingNumbers) : Type 0 where
   -- the numbers that the answer list has: of each pair the first
   pub middle : (l : Load) → number f case-silo l 5000 ≡ middle-number l
   -- h 7,500 accepted, 7,499 gives 13; 49,999 accepted, 50,000 gives 12
-  pub h-7500 : (s : List ℕ) → UpToEleven s → h-of s ≡ 7500 → refusal-of s ≡ 0
-  pub h-7499 : (s : List ℕ) → UpToEleven s → h-of s ≡ 7499 → refusal-of s ≡ 13
-  pub h-49999 : (s : List ℕ) → UpToEleven s → h-of s ≡ 49999 → refusal-of s ≡ 0
-  pub h-50000 : (s : List ℕ) → UpToEleven s → h-of s ≡ 50000 → refusal-of s ≡ 12
+  pub h-7500 : HeightGives 7500 0
+  pub h-7499 : HeightGives 7499 13
+  pub h-49999 : HeightGives 49999 0
+  pub h-50000 : HeightGives 50000 12
   -- e 1,250 accepted, 1,251 gives 8; r 1,000 with H 364 accepted, H 363 gives 9
   pub e-1250 : refusal-of (case-sheet 40 140 1250 0 0 five) ≡ 0
   pub e-1251 : refusal-of (case-sheet 40 140 1251 0 0 five) ≡ 8
   pub H-364 : refusal-of (case-sheet 40 140 0 364 1000 five) ≡ 0
   pub H-363 : refusal-of (case-sheet 40 140 0 363 1000 five) ≡ 9
-  -- μ 10 accepted, 9 and 0 give 7; C0 0 acts as 135, 99 gives 7
+  -- μ 10 accepted, 9 and 0 give 7; C0 99 gives 7
   pub friction-10 : refusal-of (case-sheet 10 140 0 0 0 five) ≡ 0
   pub friction-9 : refusal-of (case-sheet 9 140 0 0 0 five) ≡ 7
   pub friction-0 : refusal-of (case-sheet 0 140 0 0 0 five) ≡ 7
-  pub factor-0 : refusal-of (case-sheet 40 0 0 0 0 five) ≡ 0
-  pub factor-135 : product-of (case-sheet 40 0 0 0 0 five) ≡ product-of (case-sheet 40 135 0 0 0 five)
   pub factor-99 : refusal-of (case-sheet 40 99 0 0 0 five) ≡ 7
+  -- C0 0 acts as 135: accepted; lent the same list, the load call answers the same and leaves the same list
+  pub factor-0 : refusal-of (case-sheet 40 0 0 0 0 five) ≡ 0
+  pub factor-135 : (lent left left' : List ℕ) (r r' : ℕ) → Promise f (case-sheet 40 0 0 0 0 five) lent r left
+      → Promise f (case-sheet 40 135 0 0 0 five) lent r' left' → (r ≡ r') × (left ≡ left')

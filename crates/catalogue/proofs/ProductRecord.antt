@@ -1,8 +1,9 @@
--- The record that the catalogue writes is accepted as the product record of a sheet: with anything before and behind
--- it, its bytes read back as the product of its row and wall, and every row of the table is inside rule 7.
-use Prim.Native.Nat.{ℕ, zero, suc, _+_, _*_, _≤_, _<_}
-use mathlib.Core.Bool.{Bool, true, _&&_}
+-- The record that the catalogue writes is accepted as the product record of a sheet: with anything before and behind it, the bytes of a
+-- product inside rule 7 read back as that product, and every row of the table is inside rule 7 on either wall.
+use Prim.Native.Nat.{ℕ, zero, suc, _+_, _*_, _/_, _%_, _≤_, _<_}
+use mathlib.Core.Bool.{Bool, true, _&&_, _||_}
 use mathlib.Core.List.{List, [], _∷_, _++_}
+use mathlib.Core.Logic.{_⊎_, inl, inr}
 use mathlib.Core.Path.{_≡_, refl, ap, ap₂, _∙_}
 use native.Mathlib.Omega.{arith}
 use borrow.Author.Tests.{eqb-true, le-leb}
@@ -10,12 +11,13 @@ use lib.Dec.{eqb}
 use lib.ListN.{length, getD, length-append}
 use lib.Seq.{getD-append-add}
 use Rattle.janssen.specs.declared.Product.{Product}
-use Rattle.records.specs.Format.{u16, u32, place, payload, due, allowed, record-rule}
-use Rattle.records.proofs.Tests.{absurd, both-true}
+use Rattle.records.specs.Rules.{within, first-unmet}
+use Rattle.records.specs.Format.{u16, u32, place, payload, allowed, record-rules}
+use Rattle.records.proofs.Tests.{absurd, both-true, either-true, within-true}
 use Rattle.description.specs.Silo.{product-sent}
-use Rattle.sheet.specs.Refusal.{product-rule}
+use Rattle.sheet.specs.Refusal.{product-met}
 use Rattle.catalogue.specs.declared.Material.{Material}
-use Rattle.catalogue.specs.Table.{material, materials, row-of, friction-of, product-for, record-of}
+use Rattle.catalogue.specs.Table.{material, materials, row-of, product-for, record-of}
 
 -- numbers behind a list of other bytes
 module _ (p l : List ℕ) where
@@ -42,33 +44,33 @@ all-at f [] h i d m = absurd (omega arith)
 all-at f (x ∷ l) h zero d m = both-true (f x) (all f l) h .0
 all-at f (x ∷ l) h (suc i) d m = all-at f l (both-true (f x) (all f l) h .1) i d (omega arith)
 
--- a product passes rule 7, and its record reads back as itself
-read-back : Product → Bool
-read-back r =
-    eqb (product-rule r) 0
-    && (eqb (u32 (record-of r) 4) (r .weight)
-    && (eqb (u16 (record-of r) 8) (r .ratio)
-    && (eqb (u16 (record-of r) 10) (r .friction) && eqb (u16 (record-of r) 12) (r .factor))))
+-- every row on either wall is inside rule 7
+inside : Material → Bool
+inside m = product-met (product-for m 0) && product-met (product-for m 1)
 
-on-steel : Material → Bool
-on-steel m = read-back (product-for m 0)
+rows-inside : all inside materials ≡ true
+unfolding all inside materials product-for
+rows-inside = refl
 
-on-concrete : Material → Bool
-on-concrete m = read-back (product-for m 1)
+rows-met : (row wall : ℕ) → row < 10 → wall < 2 → product-met (product-for (row-of row) wall) ≡ true
+unfolding row-of materials inside
+rows-met row wall h w = on wall w (both-true (product-met (product-for (row-of row) 0)) _ (all-at inside materials rows-inside row (material 0 0 0 0 0) h))
+  where
+    on : (k : ℕ) → k < 2 → (product-met (product-for (row-of row) 0) ≡ true) × (product-met (product-for (row-of row) 1) ≡ true) → product-met (product-for (row-of row) k) ≡ true
+    on zero l b = b .0
+    on (suc zero) l b = b .1
+    on (suc (suc k)) l b = absurd (omega arith)
 
-rows-on-steel : all on-steel materials ≡ true
-unfolding all on-steel read-back materials product-rule product-for friction-of record-of u16 u32
-rows-on-steel = refl
+-- a number that fits its bytes is read back from them
+two-back : (n : ℕ) → n < 65536 → n % 256 + 256 * (n / 256 % 256) ≡ n
+two-back n h = omega arith
 
-rows-on-concrete : all on-concrete materials ≡ true
-unfolding all on-concrete read-back materials product-rule product-for friction-of record-of u16 u32
-rows-on-concrete = refl
+four-back : (n : ℕ) → n < 4294967296 → n % 256 + 256 * (n / 256 % 256) + 65536 * (n / 65536 % 256 + 256 * (n / 65536 / 256 % 256)) ≡ n
+four-back n h = omega arith
 
-rows-read-back : (row wall : ℕ) → row < 10 → wall < 2 → read-back (product-for (row-of row) wall) ≡ true
-unfolding row-of materials on-steel on-concrete
-rows-read-back row zero h w = all-at on-steel materials rows-on-steel row (material 0 0 0 0 0) h
-rows-read-back row (suc zero) h w = all-at on-concrete materials rows-on-concrete row (material 0 0 0 0 0) h
-rows-read-back row (suc (suc k)) h w = absurd (omega arith)
+factor-most : (c : ℕ) → (eqb c 0 ≡ true) ⊎ (within 100 200 c ≡ true) → c < 65536
+factor-most c (inl e) = omega (arith, eqb-true c 0 e)
+factor-most c (inr e) = omega (arith, within-true 100 200 c e .1)
 
 -- a record with other bytes before and behind it
 abbrev pub around : List ℕ → Product → List ℕ → List ℕ
@@ -90,8 +92,8 @@ module _ (p : List ℕ) (r : Product) (q : List ℕ) where
   around-length = let n = length-append p (record-of r ++ q) in omega arith
 
   -- rules 2, 3 and 4 for the product record
-  record-accepted : record-rule (around p r q) (length p) 1 ≡ 0
-  unfolding record-rule due allowed
+  record-accepted : first-unmet (record-rules (around p r q) (length p) 1) ≡ 0
+  unfolding first-unmet record-rules allowed
   record-accepted =
       let s = around p r q in
       let n = around-length in
@@ -99,28 +101,35 @@ module _ (p : List ℕ) (r : Product) (q : List ℕ) where
       let g : length p + 4 + 10 ≤ length s = omega arith in
       simp (le-leb (length p + 4) (length s) f, header-kind, header-length, le-leb (length p + 4 + 10) (length s) g)
 
-  -- the record reads back as the product
-  product-read-back : read-back r ≡ true → place (around p r q) 1 ≡ length p → product-sent (around p r q) ≡ r
-  unfolding product-sent payload read-back record-of u16 u32
-  product-read-back ok e =
+  -- inside rule 7 it reads back as the product
+  product-read-back : product-met r ≡ true → place (around p r q) 1 ≡ length p → product-sent (around p r q) ≡ r
+  unfolding product-sent payload record-of u16 u32
+  product-read-back m e =
       let s = around p r q in
       let l = record-of r ++ q in
-      let b1 = both-true (eqb (product-rule r) 0) _ ok in
-      let b2 = both-true (eqb (u32 (record-of r) 4) (r .weight)) _ (b1 .1) in
-      let b3 = both-true (eqb (u16 (record-of r) 8) (r .ratio)) _ (b2 .1) in
-      let b4 = both-true (eqb (u16 (record-of r) 10) (r .friction)) (eqb (u16 (record-of r) 12) (r .factor)) (b3 .1) in
+      let γ-in = within 1000 30000 (r .weight) in
+      let Ks-in = within 20 100 (r .ratio) in
+      let μ-in = within 10 100 (r .friction) in
+      let b3 = both-true (γ-in && Ks-in && μ-in) (eqb (r .factor) 0 || within 100 200 (r .factor)) m in
+      let b2 = both-true (γ-in && Ks-in) μ-in (b3 .0) in
+      let b1 = both-true γ-in Ks-in (b2 .0) in
       let at : (n : ℕ) → place s 1 + 4 + n ≡ length p + (4 + n) = λ n. omega arith in
-      let w : u32 s (place s 1 + 4) ≡ r .weight = ap (λ x. u32 s (x + 4)) e ∙ u32-behind p l 4 ∙ eqb-true (u32 (record-of r) 4) (r .weight) (b2 .0) in
-      let k : u16 s (place s 1 + 4 + 4) ≡ r .ratio = ap (u16 s) (at 4) ∙ u16-behind p l 8 ∙ eqb-true (u16 (record-of r) 8) (r .ratio) (b3 .0) in
-      let m : u16 s (place s 1 + 4 + 6) ≡ r .friction = ap (u16 s) (at 6) ∙ u16-behind p l 10 ∙ eqb-true (u16 (record-of r) 10) (r .friction) (b4 .0) in
-      let c : u16 s (place s 1 + 4 + 8) ≡ r .factor = ap (u16 s) (at 8) ∙ u16-behind p l 12 ∙ eqb-true (u16 (record-of r) 12) (r .factor) (b4 .1) in
-      simp (w, k, m, c)
+      let w : u32 s (place s 1 + 4) ≡ r .weight = ap (λ x. u32 s (x + 4)) e ∙ u32-behind p l 4 ∙ four-back (r .weight) (omega (arith, within-true 1000 30000 (r .weight) (b1 .0) .1)) in
+      let k : u16 s (place s 1 + 4 + 4) ≡ r .ratio = ap (u16 s) (at 4) ∙ u16-behind p l 8 ∙ two-back (r .ratio) (omega (arith, within-true 20 100 (r .ratio) (b1 .1) .1)) in
+      let f : u16 s (place s 1 + 4 + 6) ≡ r .friction = ap (u16 s) (at 6) ∙ u16-behind p l 10 ∙ two-back (r .friction) (omega (arith, within-true 10 100 (r .friction) (b2 .1) .1)) in
+      let c : u16 s (place s 1 + 4 + 8) ≡ r .factor = ap (u16 s) (at 8) ∙ u16-behind p l 12 ∙ two-back (r .factor) (factor-most (r .factor) (either-true (eqb (r .factor) 0) (within 100 200 (r .factor)) (b3 .1))) in
+      simp (w, k, f, c)
 
 -- the record of a row and a wall, as the product record of a sheet, passes rules 2 to 4 and rule 7, and is read as its product
-pub catalogue-accepted : (p q : List ℕ) (row wall : ℕ) → row < 10 → wall < 2 → place (around p (product-for (row-of row) wall) q) 1 ≡ length p → (record-rule (around p (product-for (row-of row) wall) q) (length p) 1 ≡ 0) × (product-sent (around p (product-for (row-of row) wall) q) ≡ product-for (row-of row) wall) × (product-rule (product-sent (around p (product-for (row-of row) wall) q)) ≡ 0)
-unfolding read-back
-catalogue-accepted p q row wall h w e =
-    let r = product-for (row-of row) wall in
-    let ok = rows-read-back row wall h w in
-    let b = product-read-back p r q ok e in
-    (record-accepted p r q, b, ap product-rule b ∙ eqb-true (product-rule r) 0 (both-true (eqb (product-rule r) 0) _ ok .0))
+module _ (before behind : List ℕ) (row wall : ℕ) where
+  abbrev product : Product
+  product = product-for (row-of row) wall
+
+  abbrev sheet : List ℕ
+  sheet = around before product behind
+
+  pub catalogue-accepted : row < 10 → wall < 2 → place sheet 1 ≡ length before → (first-unmet (record-rules sheet (length before) 1) ≡ 0) × (product-sent sheet ≡ product) × (product-met (product-sent sheet) ≡ true)
+  catalogue-accepted h w e =
+      let m = rows-met row wall h w in
+      let b = product-read-back before product behind m e in
+      (record-accepted before product behind, b, ap product-met b ∙ m)

@@ -1,11 +1,12 @@
 -- The catalogue of products: table 7.1 of source 001. Document 01, "Answer list" and "Who can be refused".
-use Prim.Native.Nat.{ℕ, zero, suc, _/_, _%_}
-use mathlib.Core.Bool.{cond}
-use mathlib.Core.List.{List, [], _∷_}
+use Prim.Native.Nat.{ℕ}
+use mathlib.Core.Bool.{cond, _&&_}
+use mathlib.Core.List.{List, [], _∷_, _++_}
 use lib.ListN.{length, getD}
 use lib.Dec.{leb, eqb}
 use Rattle.janssen.specs.declared.Product.{Product}
-use Rattle.records.specs.Rules.{must, orElse}
+use Rattle.records.specs.Rules.{Rule, _unless_, first-unmet}
+use Rattle.records.specs.Format.{two-bytes, four-bytes, record-bytes}
 use Rattle.catalogue.specs.declared.Material.{Material}
 
 -- γ (N/m³), Ks, μ on steel, μ on concrete, C0 (hundredths)
@@ -32,42 +33,20 @@ unfoldable pub row-of : ℕ → Material
 row-of row = getD materials row (material 0 0 0 0 0)
 
 -- wall 0 steel, wall 1 concrete
-unfoldable pub friction-of : Material → ℕ → ℕ
-friction-of m wall = cond (eqb wall 0) (m .steel) (m .concrete)
-
 unfoldable pub product-for : Material → ℕ → Product
 product-for m wall =
-    record { weight = m .weight; ratio = m .ratio; friction = friction-of m wall; factor = m .factor }
+    record { weight = m .weight; ratio = m .ratio; friction = cond (eqb wall 0) (m .steel) (m .concrete); factor = m .factor }
 
--- the product record of 14 bytes: length 10, kind 3, γ, Ks, μ, C0, little-endian
+-- the product record of 14 bytes: kind 3, γ, Ks, μ, C0
 unfoldable pub record-of : Product → List ℕ
 record-of p =
-    10
-    ∷ 0
-    ∷ 3
-    ∷ 0
-    ∷ p .weight % 256
-    ∷ p .weight / 256 % 256
-    ∷ p .weight / 65536 % 256
-    ∷ p .weight / 16777216 % 256
-    ∷ p .ratio % 256
-    ∷ p .ratio / 256 % 256
-    ∷ p .friction % 256
-    ∷ p .friction / 256 % 256
-    ∷ p .factor % 256
-    ∷ p .factor / 256 % 256
-    ∷ []
+    record-bytes 3 (four-bytes (p .weight) ++ two-bytes (p .ratio) ++ two-bytes (p .friction) ++ two-bytes (p .factor))
 
 -- 15 no such row or wall, then 16 the buffer is not of 14 bytes
-unfoldable pub catalogue-refusal : ℕ → ℕ → ℕ → ℕ
-catalogue-refusal row wall n =
-    orElse (must (leb row 9) 15) (orElse (must (leb wall 1) 15) (must (eqb n 14) 16))
-
-abbrev pub written : ℕ → List ℕ → List ℕ → List ℕ
-written zero new old = new
-written (suc n) new old = old
+unfoldable pub catalogue-rules : ℕ → ℕ → ℕ → List Rule
+catalogue-rules row wall n = 15 unless (leb row 9 && leb wall 1) ∷ 16 unless eqb n 14 ∷ []
 
 -- the buffer afterwards: the record, or as it was at a refusal
 unfoldable pub catalogue-after : ℕ → ℕ → List ℕ → List ℕ
 catalogue-after row wall old =
-    written (catalogue-refusal row wall (length old)) (record-of (product-for (row-of row) wall)) old
+    cond (eqb (first-unmet (catalogue-rules row wall (length old))) 0) (record-of (product-for (row-of row) wall)) old

@@ -1,9 +1,11 @@
 // The catalogue of products: table 7.1 of source 001.
 ghost use mathlib.Core.Path.{_≡_};
-ghost use Prim.Native.Nat.{_<_};
-ghost use lib.ListN.{length};
-ghost use Rattle.catalogue.specs.Table.{row-of, product-for, record-of, catalogue-refusal, catalogue-after};
+ghost use Prim.Native.Nat.{_+_, _/_, _%_, _<_};
+ghost use lib.ListN.{length, set};
+ghost use Rattle.records.specs.Rules.{first-unmet};
+ghost use Rattle.catalogue.specs.Table.{row-of, product-for, record-of, catalogue-rules, catalogue-after};
 use janssen::Product;
+use records::rules::unless;
 
 // A row of the table.
 pub struct Material {
@@ -119,39 +121,37 @@ fn product_on(m: Material, wall: u32) -> Product
     }
 }
 
-// Writes the product record: payload length 10, kind 3, γ, Ks, μ and C0, little-endian.
+// Stores a number in two bytes, little-endian.
+fn store_two(buffer: &mut [u8], at: usize, n: u64)
+    requires { ⌜ at + 1 < length (now buffer) ⌝ }
+    ensures { λ _. ⌜ now (buffer .exit) ≡ set (set (now (buffer .entry)) at (n % 256)) (at + 1) (n / 256 % 256) ⌝ }
+{
+    buffer[at] = (n % 256) as u8;
+    buffer[at + 1] = (n / 256 % 256) as u8;
+}
+
+// Writes the product record: payload length 10, kind 3, γ, Ks, μ and C0.
 fn write_record(buffer: &mut [u8], p: Product)
     requires { ⌜ length (now buffer) ≡ 14 ⌝ }
     ensures { λ _. ⌜ now (buffer .exit) ≡ record-of p ⌝ }
 {
-    buffer[0] = 10;
-    buffer[1] = 0;
-    buffer[2] = 3;
-    buffer[3] = 0;
-    buffer[4] = (p.weight % 256) as u8;
-    buffer[5] = (p.weight / 256 % 256) as u8;
-    buffer[6] = (p.weight / 65536 % 256) as u8;
-    buffer[7] = (p.weight / 16777216 % 256) as u8;
-    buffer[8] = (p.ratio % 256) as u8;
-    buffer[9] = (p.ratio / 256 % 256) as u8;
-    buffer[10] = (p.friction % 256) as u8;
-    buffer[11] = (p.friction / 256 % 256) as u8;
-    buffer[12] = (p.factor % 256) as u8;
-    buffer[13] = (p.factor / 256 % 256) as u8;
+    store_two(buffer, 0, 10);
+    store_two(buffer, 2, 3);
+    store_two(buffer, 4, p.weight);
+    store_two(buffer, 6, p.weight / 65536);
+    store_two(buffer, 8, p.ratio);
+    store_two(buffer, 10, p.friction);
+    store_two(buffer, 12, p.factor);
 }
 
 // 0, with the product record of a row for a wall written; or 15 or 16, with the buffer as it was.
 pub fn catalogue(row: u32, wall: u32, buffer: &mut [u8]) -> u32
-    ensures { λ r. ⌜ (r ≡ catalogue-refusal row wall (length (now (buffer .entry)))) × (now (buffer .exit) ≡ catalogue-after row wall (now (buffer .entry))) ⌝ }
+    ensures { λ r. ⌜ (r ≡ first-unmet (catalogue-rules row wall (length (now (buffer .entry))))) × (now (buffer .exit) ≡ catalogue-after row wall (now (buffer .entry))) ⌝ }
 {
-    if 9 < row {
-        return 15;
-    }
-    if 1 < wall {
-        return 15;
-    }
-    if buffer.len() != 14 {
-        return 16;
+    let refused = unless(0, 15, (row <= 9) & (wall <= 1));
+    let refused = unless(refused, 16, buffer.len() == 14);
+    if refused != 0 {
+        return refused;
     }
     write_record(buffer, product_on(table_row(row as usize), wall));
     0

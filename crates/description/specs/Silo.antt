@@ -20,23 +20,15 @@ section-of s =
 -- γ (N/m³), Ks, μ, C0 (hundredths) as sent
 unfoldable pub product-sent : List ℕ → Product
 product-sent s =
-    record {
-      weight = u32 s (payload s 1);
-      ratio = u16 s (payload s 1 + 4);
-      friction = u16 s (payload s 1 + 6);
-      factor = u16 s (payload s 1 + 8);
-    }
+    record { weight = u32 s (payload s 1); ratio = u16 s (payload s 1 + 4); friction = u16 s (payload s 1 + 6); factor = u16 s (payload s 1 + 8) }
 
 -- the factor C0 = 0 is read as 135
 unfoldable pub factor-read : ℕ → ℕ
 factor-read c = cond (eqb c 0) 135 c
 
-unfoldable pub product-read : Product → Product
-product-read p =
-    record { weight = p .weight; ratio = p .ratio; friction = p .friction; factor = factor-read (p .factor) }
-
 unfoldable pub product-of : List ℕ → Product
-product-of s = product-read (product-sent s)
+product-of s =
+    record { weight = product-sent s .weight; ratio = product-sent s .ratio; friction = product-sent s .friction; factor = factor-read (product-sent s .factor) }
 
 -- e_i and e_o, mm
 unfoldable pub eccentricities-of : List ℕ → Eccentricities

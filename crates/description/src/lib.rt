@@ -34,7 +34,7 @@ pub struct WallState {
 }
 
 // What a sheet describes.
-pub struct Silo {
+pub struct Described {
     pub section: Section,
     pub product: Product,
     pub eccentricities: Eccentricities,
@@ -43,11 +43,11 @@ pub struct Silo {
 }
 
 // The silo that a sheet with at most 24 strakes describes.
-pub fn read_silo(sheet: &[u8]) -> Silo
+pub fn read_silo(sheet: &[u8]) -> Described
     requires { ⌜ strake-count (now sheet) ≤ 24 ⌝ }
     ensures { λ r. ⌜ r ≡ silo-read (now (sheet .entry)) ⌝ }
 {
-    Silo {
+    Described {
         section: values::read_section(sheet),
         product: values::read_product(sheet),
         eccentricities: values::read_eccentricities(sheet),

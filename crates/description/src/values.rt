@@ -4,6 +4,7 @@ ghost use Prim.Native.Nat.{_<_, _≤_};
 ghost use Rattle.janssen.specs.Section.{side-a, side-b};
 ghost use Rattle.records.specs.Format.{payload, payload-length};
 ghost use Rattle.description.specs.Silo.{section-of, product-sent, factor-read, product-of, eccentricities-of, bottom-of, strake-count, depth-count, V-of};
+ghost use Rattle.description.specs.program.Pair.{PairAt};
 ghost use Rattle.description.specs.program.Wall.{wall-of};
 use crate::Bottom;
 use crate::Eccentricities;
@@ -28,6 +29,24 @@ pub fn payload_bytes(sheet: &[u8], k: usize) -> u64
     ensures { λ r. ⌜ (r ≡ payload-length (now (sheet .entry)) k) × (r < 65536) ⌝ }
 {
     read_record(sheet, k).length
+}
+
+// Two numbers of four bytes.
+struct Pair {
+    first: u64,
+    second: u64,
+}
+
+// The two numbers with which the payload of record k begins.
+fn read_pair(sheet: &[u8], k: usize) -> Pair
+    requires { ⌜ k < 6 ⌝ }
+    ensures { λ r. ⌜ PairAt (now (sheet .entry)) (payload (now (sheet .entry)) k) r ⌝ }
+{
+    let at = payload_place(sheet, k);
+    Pair {
+        first: four_bytes(sheet, at),
+        second: four_bytes(sheet, at + 4),
+    }
 }
 
 pub fn read_section(sheet: &[u8]) -> Section
@@ -77,20 +96,20 @@ pub fn read_product(sheet: &[u8]) -> Product
 pub fn read_eccentricities(sheet: &[u8]) -> Eccentricities
     ensures { λ r. ⌜ (r ≡ eccentricities-of (now (sheet .entry))) × (r .inlet < 4294967296) × (r .outlet < 4294967296) ⌝ }
 {
-    let at = payload_place(sheet, 2);
+    let read = read_pair(sheet, 2);
     Eccentricities {
-        inlet: four_bytes(sheet, at),
-        outlet: four_bytes(sheet, at + 4),
+        inlet: read.first,
+        outlet: read.second,
     }
 }
 
 pub fn read_bottom(sheet: &[u8]) -> Bottom
     ensures { λ r. ⌜ (r ≡ bottom-of (now (sheet .entry))) × (r .height < 4294967296) × (r .run < 4294967296) ⌝ }
 {
-    let at = payload_place(sheet, 3);
+    let read = read_pair(sheet, 3);
     Bottom {
-        height: four_bytes(sheet, at),
-        run: four_bytes(sheet, at + 4),
+        height: read.first,
+        run: read.second,
     }
 }
 

@@ -3,9 +3,9 @@
 use Prim.Native.Nat.{ℕ, _*_}
 use Rattle.fraction.specs.Fraction.{Fraction, _⊘_, whole, _⊕_, _⊗_, up}
 
--- a filling pressure at discharge, C times as large (5.20, 5.21 and 5.23)
-abbrev pub discharged : Fraction → Fraction → Fraction
-discharged C v = C ⊗ v
+-- C·p: a filling pressure at discharge (5.20, 5.21 and 5.23) or on the flat floor, each with its own C
+abbrev pub magnified : Fraction → Fraction → Fraction
+magnified C v = C ⊗ v
 
 -- β = 1 + 4e/d_c (5.25), e and d_c in mm
 abbrev pub β : ℕ → ℕ → Fraction
@@ -15,18 +15,14 @@ abbrev pub β : ℕ → ℕ → Fraction
 abbrev pub patch : ℕ → ℕ → Fraction → Fraction
 patch e d v = (2 ⊘ 10) ⊗ β e d ⊗ v
 
--- 1.2·p_vf (5.13 and 5.14)
-abbrev pub floor : Fraction → Fraction
-floor v = (12 ⊘ 10) ⊗ v
+-- C of the flat floor (5.13 and 5.14)
+abbrev pub C-b : Fraction
+C-b = 12 ⊘ 10
 
--- p_he = up(C·p_hf), p_we = up(C·p_wf), each with its own C
-unfoldable pub discharge-load : Fraction → ℕ → ℕ
-discharge-load C p = up (discharged C (whole p))
+-- p_he = up(C0·p_hf), p_we = up(1.1·p_wf), the floor up(1.2·p_vf(V))
+unfoldable pub magnified-load : Fraction → ℕ → ℕ
+magnified-load C p = up (magnified C (whole p))
 
 -- p_p = up(0.2·β·p_he)
 unfoldable pub patch-load : ℕ → ℕ → ℕ → ℕ
 patch-load e d h = up (patch e d (whole h))
-
--- the flat floor's load: up(1.2·p_vf(V))
-unfoldable pub floor-load : ℕ → ℕ
-floor-load p = up (floor (whole p))

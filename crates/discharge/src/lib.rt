@@ -1,24 +1,32 @@
 // Loads on wall and flat floor made from filling pressures. Source 001, clauses 5.2.1.2 and 5.2.2.1.
 ghost use mathlib.Core.Path.{_≡_};
 ghost use Prim.Native.Nat.{_*_, _^_, _<_, _≤_, max};
-ghost use Rattle.discharge.specs.Discharge.{discharge-load, patch-load, floor-load};
+ghost use Rattle.discharge.specs.Discharge.{magnified-load, patch-load, C-b};
 ghost use Rattle.fraction.specs.Fraction.{_⊘_};
 use janssen::Pascals;
+
+// A filling pressure times the factor top/bottom, rounded up.
+fn magnified(top: u64, bottom: u64, filling: Pascals) -> Pascals
+    requires { ⌜ (0 < bottom) × (bottom ≤ 2 ^ 30) × (top ≤ 2 * bottom) × (filling .0 < 2 ^ 25) ⌝ }
+    ensures { λ r. ⌜ (r .0 ≡ magnified-load (top ⊘ bottom) (filling .0)) × (r .0 ≤ 2 ^ 26) ⌝ }
+{
+    Pascals(fraction::quotient_up(top * filling.0 as u64, bottom) as u32)
+}
 
 // p_he from p_hf; factor is C0 in hundredths.
 pub fn horizontal_discharge(factor: u64, filling: Pascals) -> Pascals
     requires { ⌜ (factor ≤ 200) × (filling .0 < 2 ^ 25) ⌝ }
-    ensures { λ r. ⌜ (r .0 ≡ discharge-load (factor ⊘ 100) (filling .0)) × (r .0 ≤ 2 ^ 26) ⌝ }
+    ensures { λ r. ⌜ (r .0 ≡ magnified-load (factor ⊘ 100) (filling .0)) × (r .0 ≤ 2 ^ 26) ⌝ }
 {
-    Pascals(fraction::quotient_up(factor * filling.0 as u64, 100) as u32)
+    magnified(factor, 100, filling)
 }
 
 // p_we from p_wf.
 pub fn friction_discharge(filling: Pascals) -> Pascals
     requires { ⌜ filling .0 < 2 ^ 25 ⌝ }
-    ensures { λ r. ⌜ r .0 ≡ discharge-load (11 ⊘ 10) (filling .0) ⌝ }
+    ensures { λ r. ⌜ r .0 ≡ magnified-load (11 ⊘ 10) (filling .0) ⌝ }
 {
-    Pascals(fraction::quotient_up(11 * filling.0 as u64, 10) as u32)
+    magnified(11, 10, filling)
 }
 
 // e, mm: the larger of the eccentricities of filling and outlet.
@@ -39,7 +47,7 @@ pub fn patch(e: u64, d: u64, horizontal: Pascals) -> Pascals
 // The load on a flat floor from p_vf at the wall's foot.
 pub fn floor(filling: Pascals) -> Pascals
     requires { ⌜ filling .0 < 2 ^ 25 ⌝ }
-    ensures { λ r. ⌜ r .0 ≡ floor-load (filling .0) ⌝ }
+    ensures { λ r. ⌜ r .0 ≡ magnified-load C-b (filling .0) ⌝ }
 {
-    Pascals(fraction::quotient_up(12 * filling.0 as u64, 10) as u32)
+    magnified(12, 10, filling)
 }

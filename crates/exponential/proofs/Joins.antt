@@ -5,7 +5,8 @@ use Prim.Native.Nat.{ℕ, _+_, _*_, _^_, _≤_, _<_}
 use native.Mathlib.Nat.{mul-pos, mul-le-mul-left, mul-le-mul-right, mul-lt-mul-of-pos-right, le-of-mul-le-mul-right, lt-of-mul-lt-mul-right}
 use native.Mathlib.Omega.{arith}
 use Rattle.fraction.specs.Fraction.{Fraction, _⊘_, whole, _⊗_, _⪯_}
-use Rattle.exponential.specs.Series.{S, Below, Above}
+use Rattle.exponential.specs.Series.{S}
+use Rattle.exponential.specs.Table.{Below, Above}
 use Rattle.exponential.proofs.Terms.{S-positive}
 use Rattle.exponential.proofs.SeriesLaws.{S-split, S-join}
 

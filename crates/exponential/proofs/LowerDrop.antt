@@ -7,19 +7,17 @@ use native.Mathlib.Nat.{mul-pos, mul-le-mul-left, mul-le-mul-right, le-max-left,
 use native.Mathlib.Decide.{decLe}
 use native.Mathlib.Omega.{arith}
 use Rattle.fraction.specs.Fraction.{Fraction, _⊘_, whole, _⊗_, _⪯_}
-use Rattle.exponential.specs.Series.{factorial, term, S, Reaches, Above}
+use Rattle.fraction.proofs.Order.{≺-⪯}
+use Rattle.exponential.specs.Series.{factorial, term, S}
 use Rattle.exponential.specs.program.Lower.{denominator, between, entry, lower}
 use Rattle.exponential.proofs.Terms.{S-positive}
 use Rattle.exponential.proofs.SeriesLaws.{S-one, S-split}
 use Rattle.exponential.proofs.TableLaws.{entry-zero}
-use Rattle.exponential.proofs.LowerLaws.{denominator-large, denominator-below, near-one, lower-below, lower-above, lower-le, lower-zero}
+use Rattle.exponential.proofs.LowerLaws.{Reaches, denominator-large, denominator-below, near-one, lower-below, lower-above, lower-le, lower-zero}
 
 -- 354 more reaches 2^40·e^(-Q/2^33)
 pub lower-anywhere : (Q : ℕ) → Q < 53 * 2 ^ 33 → Reaches (lower Q + 354) (Q ⊘ 2 ^ 33)
-lower-anywhere Q h = go (lower-above Q h)
-  where
-    go : Above (lower Q + 354) (Q ⊘ 2 ^ 33) → Reaches (lower Q + 354) (Q ⊘ 2 ^ 33)
-    go (n, a) = (n, record { left = a .left; right = a .right; order = omega (arith, a .order) })
+lower-anywhere Q h = let a = lower-above Q h in (a .0, ≺-⪯ (a .1))
 
 -- the quotient's rounding, at the first entry
 quotient-first : (Q : ℕ) → Q < 2 ^ 27 → 2 ^ 40 * (2 ^ 35 - Q) < lower Q * denominator Q + denominator Q

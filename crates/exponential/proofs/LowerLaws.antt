@@ -13,7 +13,8 @@ use native.Mathlib.Omega.{arith}
 use Rattle.fraction.specs.Fraction.{Fraction, up, _⊘_, whole, _⊗_, _⪯_}
 use Rattle.fraction.proofs.Order.{compare, ⪯-trans, ≺-⪯-trans, ⊗-mono, ⪯-refl}
 use Rattle.fraction.proofs.Up.{up-ge, up-lt, up-mono}
-use Rattle.exponential.specs.Series.{S, Below, Reaches, Above}
+use Rattle.exponential.specs.Series.{S}
+use Rattle.exponential.specs.Table.{Below, Above}
 use Rattle.exponential.specs.program.Table.{table}
 use Rattle.exponential.specs.program.Lower.{denominator, between, entry, lower}
 use Rattle.exponential.proofs.Terms.{terms, terms-are, S-positive}
@@ -98,6 +99,10 @@ module _ (j : ℕ) where
         three,
         last,
       ))
+
+-- t is at least 2^40·e^(-q): t·S_n ≥ 2^40 for some n
+abbrev pub Reaches : ℕ → Fraction → Type 0
+Reaches t q = (n : ℕ) × (whole (2 ^ 40) ⪯ whole t ⊗ S n q)
 
 -- a bound from below holds at every smaller q, a bound from above at every greater one
 pub below-anti : {q q' : Fraction} (t : ℕ) → q ⪯ q' → Below t q' → Below t q

@@ -1,4 +1,4 @@
--- The laws of S_n: at least 1, rising with n and with q, and S_n(x + y) ≤ S_n(x)·S_n(y), S_n(x)·S_m(y) ≤ S_(n+m)(x + y).
+-- The laws of S_n: at least 1, rising with q, and S_n(x + y) ≤ S_n(x)·S_n(y), S_n(x)·S_m(y) ≤ S_(n+m)(x + y).
 -- Each is read off the terms as whole numbers (`Terms`), whose sums are S_n times the first term.
 -- Assumes nothing.
 use mathlib.Core.Path.{_≡_, ap, ap₂}
@@ -8,7 +8,7 @@ use native.Mathlib.Omega.{arith}
 use Rattle.fraction.specs.Fraction.{Fraction, _⊘_, whole, _⊗_, _⪯_}
 use Rattle.fraction.proofs.Order.{⊕-mono}
 use Rattle.exponential.specs.Series.{factorial, term, S}
-use Rattle.exponential.proofs.Sums.{conv, psum-first, psum-rises, product-above, product-below}
+use Rattle.exponential.proofs.Sums.{conv, psum-first, product-above, product-below}
 use Rattle.exponential.proofs.Terms.{terms, terms-are, terms-positive, conv-terms, S-positive, term-positive, sum-of}
 
 -- S_n(x + y) ≤ S_n(x)·S_n(y)
@@ -75,25 +75,6 @@ S-one n q h =
             sum-of n (q .top) (q .bottom) u (terms-are n (q .top) (q .bottom)) n (omega arith),
           ))
           (terms-positive n (q .top) (q .bottom) h);
-    }
-
--- S_n rises with n
-pub S-rises : (n m : ℕ) (q : Fraction) → 0 < q .bottom → S m q ⪯ S (n + m) q
-S-rises n m q h =
-    let u = terms (n + m) (q .top) (q .bottom) in
-    let is = terms-are (n + m) (q .top) (q .bottom) in
-    record {
-      left = S-positive m q h;
-      right = S-positive (n + m) q h;
-      order =
-          le-of-mul-le-mul-left {k = u 0}
-          (omega (
-            arith,
-            mul-le-mul-right (S m q .bottom * S (n + m) q .bottom) (psum-rises u n m),
-            ap (λ (k : ℕ). k * S (n + m) q .bottom) (sum-of (n + m) (q .top) (q .bottom) u is m (omega arith)),
-            ap (λ (k : ℕ). k * S m q .bottom) (sum-of (n + m) (q .top) (q .bottom) u is (n + m) (omega arith)),
-          ))
-          (terms-positive (n + m) (q .top) (q .bottom) h);
     }
 
 mul-pow : (a b n : ℕ) → (a * b) ^ n ≡ a ^ n * b ^ n

@@ -2,17 +2,19 @@
 -- next. 679526571/668991488 is at least every S_n(1/64); 130878095681/128849018880 is S_5(1/64).
 -- Assumes nothing.
 use mathlib.Core.Path.{_≡_, refl, ap}
-use mathlib.Core.Bool.{Bool, true, false}
+use mathlib.Core.Bool.{Bool, true, _&&_}
 use mathlib.Core.List.{List, [], _∷_}
 use Prim.Native.Nat.{ℕ, zero, suc, _+_, _*_, _^_, _≤_, _<_}
 use native.Mathlib.Nat.{add-zero, add-suc, zero-add, le-trans, le-refl, not-suc-le-zero, le-of-suc-le-suc}
 use native.Mathlib.Numerals.{add-one}
 use native.Mathlib.Omega.{arith}
 use lib.Dec.{T, leb, leb→le, lit<, lit≤}
+use mir.Facts.{and-yes}
 use lib.ListN.{length, getD}
 use Rattle.fraction.specs.Fraction.{_⊘_, whole, _⊗_, _⪯_}
 use Rattle.exponential.specs.Series.{factorial, term, S}
-use Rattle.exponential.specs.program.Table.{table, Enclosed}
+use Rattle.exponential.specs.Table.{Enclosed, Tabulated}
+use Rattle.exponential.specs.program.Table.{table}
 use Rattle.exponential.specs.program.Lower.{entry}
 use Rattle.exponential.proofs.Terms.{terms, terms-are}
 use Rattle.exponential.proofs.Weighted.{wsum, weighted-bound, sum-at-most}
@@ -39,50 +41,35 @@ pub step-below : whole 130878095681 ⪯ whole 128849018880 ⊗ S 5 (1 ⊘ 64)
 unfolding S term factorial
 step-below = record { left = lit< tt; right = lit< tt; order = lit≤ tt }
 
-both : Bool → Bool → Bool
-both true b = b
-both false b = false
-
-both-left : (a b : Bool) → T (both a b) → T a
-unfolding both
-both-left true b t = tt
-both-left false b t = t
-
-both-right : (a b : Bool) → T (both a b) → T b
-unfolding both
-both-right true b t = t
-both-right false b t = absurd t
-
 -- y may follow x in the table
 follows : ℕ → ℕ → Bool
-follows x y = both (leb (y * 679526571) (x * 668991488)) (leb ((x + 256) * 128849018880) ((y + 256) * 130878095681))
+follows x y = leb (y * 679526571) (x * 668991488) && leb ((x + 256) * 128849018880) ((y + 256) * 130878095681)
 
 neighbours : ℕ → List ℕ → Bool
 neighbours x [] = true
-neighbours x (y ∷ ys) = both (follows x y) (neighbours y ys)
+neighbours x (y ∷ ys) = follows x y && neighbours y ys
 
-follows-above : (x y : ℕ) → T (follows x y) → y * 679526571 ≤ x * 668991488
+may-follow : (x y : ℕ) → T (follows x y) →
+    (y * 679526571 ≤ x * 668991488) × ((x + 256) * 128849018880 ≤ (y + 256) * 130878095681)
 unfolding follows
-follows-above x y t = leb→le _ _ (both-left _ _ t)
-
-follows-below : (x y : ℕ) → T (follows x y) → (x + 256) * 128849018880 ≤ (y + 256) * 130878095681
-unfolding follows
-follows-below x y t = leb→le _ _ (both-right (leb (y * 679526571) (x * 668991488)) _ t)
+may-follow x y t =
+    let l = and-yes (leb (y * 679526571) (x * 668991488)) (leb ((x + 256) * 128849018880) ((y + 256) * 130878095681)) t in
+    (leb→le _ _ (l .0), leb→le _ _ (l .1))
 
 -- one step along the table
 enclosed-next : (k x y : ℕ) → T (follows x y) → Enclosed k x → Enclosed (suc k) y
 enclosed-next k x y t (b, a) =
     rw (← add-one k) (
-      below-join k 1 64 x y 668991488 679526571 (omega arith) (omega arith) b step-above (follows-above x y t),
-      above-join k 1 64 (x + 256) (y + 256) 130878095681 128849018880 5 (omega arith) (omega arith) a step-below (follows-below x y t),
+      below-join k 1 64 x y 668991488 679526571 (omega arith) (omega arith) b step-above (may-follow x y t .0),
+      above-join k 1 64 (x + 256) (y + 256) 130878095681 128849018880 5 (omega arith) (omega arith) a step-below (may-follow x y t .1),
     )
 
 neighbour : (x : ℕ) (ys : List ℕ) → T (neighbours x ys) → (i : ℕ) → suc i < length (x ∷ ys)
     → T (follows (getD (x ∷ ys) i 0) (getD (x ∷ ys) (suc i) 0))
 unfolding neighbours
 neighbour x [] t i l = absurd (not-suc-le-zero (le-of-suc-le-suc l))
-neighbour x (y ∷ ys) t zero l = both-left (follows x y) (neighbours y ys) t
-neighbour x (y ∷ ys) t (suc i) l = neighbour y ys (both-right (follows x y) (neighbours y ys) t) i (le-of-suc-le-suc l)
+neighbour x (y ∷ ys) t zero l = and-yes (follows x y) (neighbours y ys) t .0
+neighbour x (y ∷ ys) t (suc i) l = neighbour y ys (and-yes (follows x y) (neighbours y ys) t .1) i (le-of-suc-le-suc l)
 
 tail : List ℕ → List ℕ
 tail [] = []
@@ -90,7 +77,7 @@ tail (x ∷ xs) = xs
 
 -- the computed test, over the whole table
 tested : T (neighbours (2 ^ 40) (tail table))
-unfolding neighbours follows both tail table
+unfolding neighbours follows tail table
 tested = tt
 
 table-starts : table ≡ 2 ^ 40 ∷ tail table
@@ -129,9 +116,13 @@ pub enclosed : (k : ℕ) → k < 3393 → Enclosed k (entry k)
 enclosed zero l = rw entry-zero enclosed-zero
 enclosed (suc k) l = enclosed-next k (entry k) (entry (suc k)) (follow k l) (enclosed k (omega arith))
 
+pub tabulated : Tabulated table
+unfolding entry
+tabulated = record { count = table-length; first = entry-zero; each = enclosed }
+
 -- the table never rises
 pub entry-falls : (k : ℕ) → suc k < 3393 → entry (suc k) ≤ entry k
-entry-falls k l = omega (arith, follows-above (entry k) (entry (suc k)) (follow k l))
+entry-falls k l = omega (arith, may-follow (entry k) (entry (suc k)) (follow k l) .0)
 
 pub entry-falls-by : (d k : ℕ) → k + d < 3393 → entry (k + d) ≤ entry k
 entry-falls-by zero k l = rw add-zero (le-refl (entry k))

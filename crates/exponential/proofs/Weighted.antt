@@ -57,18 +57,15 @@ module _ (M a b c m : ℕ) (u : ℕ → ℕ) (is : Terms M a b u) (e : c + a ≡
 
 -- a bound on the terms' sum, as one on S_n
 module _ (M a b n c d : ℕ) (h : 0 < b) (l : n ≤ M) where
+  sums : c * (psum (terms M a b) n * S n (a ⊘ b) .bottom) ≡ c * (terms M a b 0 * S n (a ⊘ b) .top)
+  sums = ap (λ (x : ℕ). c * x) (sum-of M a b (terms M a b) (terms-are M a b) n l)
+
   pub sum-at-most : c * psum (terms M a b) n ≤ d * terms M a b 0 → whole c ⊗ S n (a ⊘ b) ⪯ whole d
   sum-at-most k = record {
     left = omega (arith, S-positive n (a ⊘ b) h);
     right = omega arith;
     order =
-        le-of-mul-le-mul-left {k = terms M a b 0}
-        (omega (
-          arith,
-          mul-le-mul-right (S n (a ⊘ b) .bottom) k,
-          ap (λ (x : ℕ). c * x) (sum-of M a b (terms M a b) (terms-are M a b) n l),
-        ))
-        (terms-positive M a b h);
+        le-of-mul-le-mul-left {k = terms M a b 0} (omega (arith, sums, mul-le-mul-right (S n (a ⊘ b) .bottom) k)) (terms-positive M a b h);
   }
 
   pub sum-at-least : d * terms M a b 0 ≤ c * psum (terms M a b) n → whole d ⪯ whole c ⊗ S n (a ⊘ b)
@@ -76,11 +73,5 @@ module _ (M a b n c d : ℕ) (h : 0 < b) (l : n ≤ M) where
     left = omega arith;
     right = omega (arith, S-positive n (a ⊘ b) h);
     order =
-        le-of-mul-le-mul-left {k = terms M a b 0}
-        (omega (
-          arith,
-          mul-le-mul-right (S n (a ⊘ b) .bottom) k,
-          ap (λ (x : ℕ). c * x) (sum-of M a b (terms M a b) (terms-are M a b) n l),
-        ))
-        (terms-positive M a b h);
+        le-of-mul-le-mul-left {k = terms M a b 0} (omega (arith, sums, mul-le-mul-right (S n (a ⊘ b) .bottom) k)) (terms-positive M a b h);
   }

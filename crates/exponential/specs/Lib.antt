@@ -1,2 +1,3 @@
 pub mod Series
+pub mod Table
 pub mod program

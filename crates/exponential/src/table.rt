@@ -1,6 +1,7 @@
 // The table of 2^40·e^(-k/64), k = 0 to 3,392. A function that names a constant array stores it anew at each call, so only
 // `entries` names it: it is called once, and the table is lent down.
 ghost use mathlib.Core.Path.{_≡_};
+ghost use Rattle.exponential.specs.Table.{Tabulated};
 ghost use Rattle.exponential.specs.program.Table.{table};
 
 const ENTRIES: [u64; 3393] = [
@@ -3400,7 +3401,7 @@ const ENTRIES: [u64; 3393] = [
 ];
 
 pub fn entries() -> [u64; 3393]
-    ensures { λ r. ⌜ r ≡ table ⌝ }
+    ensures { λ r. ⌜ (r ≡ table) × Tabulated r ⌝ }
 {
     ENTRIES
 }

@@ -3,7 +3,7 @@
 use Prim.Native.Nat.{ℕ, _+_, _*_, _/_, _%_, _^_, _≤_, _<_}
 use mathlib.Core.Path.{_≡_, sym, _∙_, ap}
 use native.Mathlib.Omega.{arith}
-use native.Mathlib.Nat.{div-add-mod', mul-le-mul, mul-le-mul-left, mul-le-mul-right, le-mul-of-pos-right, le-of-mul-le-mul-right, mul-add-div-right, div-le-of-le-mul, pow-le-pow-right, pow-suc, le-of-lt}
+use native.Mathlib.Nat.{div-add-mod', mul-le-mul, mul-le-mul-left, mul-le-mul-right, le-of-mul-le-mul-right, mul-add-div-right, div-le-of-le-mul, pow-le-pow-right, pow-suc, le-of-lt}
 use lib.Arith.{digits-div}
 use Rattle.fraction.specs.Fraction.{_⊘_, up}
 use Rattle.fraction.proofs.Up.{up-unique, up-whole, up-nest}
@@ -17,9 +17,6 @@ module _ (n d whole rest : ℕ) (split : whole * d + rest ≡ n) (small : rest <
 
   pub up-next : 0 < rest → up (n ⊘ d) ≡ whole + 1
   up-next e = up-unique n d (whole + 1) (omega arith) (omega arith) (omega arith)
-
-  pub whole-le : whole ≤ n
-  whole-le = omega (arith, le-mul-of-pos-right {m = d} whole (omega arith))
 
 -- a rest of b-fold weight gives a digit below b
 pub digit-lt : (rest b d : ℕ) → rest < d → rest * b / d ≤ b

@@ -1,6 +1,6 @@
 -- The order of fractions. Each law follows from the cross-multiplied facts, multiplied by the bottoms that are missing; where a
 -- bottom is in the way it is positive and cancels.
-use Prim.Native.Nat.{ℕ, zero, suc, _+_, _*_, _≤_, _<_}
+use Prim.Native.Nat.{ℕ, zero, suc, _*_, _≤_, _<_}
 use mathlib.Core.Path.{_≡_}
 use native.Mathlib.Omega.{arith}
 use native.Mathlib.Nat.{mul-le-mul-right, mul-lt-mul-of-pos-right, mul-le-mul, mul-pos, le-of-mul-le-mul-right, lt-of-mul-lt-mul-right, zero-mul, mul-comm, le-of-lt}
@@ -17,9 +17,6 @@ pos-right m n h = pos-left n m (rw mul-comm h)
 -- a comparison from its cross-multiplied fact
 pub compare : {a b c d : ℕ} → 0 < b → 0 < d → a * d ≤ c * b → (a ⊘ b) ⪯ (c ⊘ d)
 compare hb hd h = record { left = hb; right = hd; order = h }
-
-pub compare-less : {a b c d : ℕ} → 0 < b → 0 < d → a * d < c * b → (a ⊘ b) ≺ (c ⊘ d)
-compare-less hb hd h = record { left = hb; right = hd; order = h }
 
 -- fractions with equal cross products are each at most the other
 pub same : {a b c d : ℕ} → 0 < b → 0 < d → a * d ≡ c * b → ((a ⊘ b) ⪯ (c ⊘ d)) × ((c ⊘ d) ⪯ (a ⊘ b))
@@ -41,15 +38,6 @@ pub ⪯-trans : {p q r : Fraction} → p ⪯ q → q ⪯ r → p ⪯ r
       (h .right);
 }
 
-pub ⪯-≺-trans : {p q r : Fraction} → p ⪯ q → q ≺ r → p ≺ r
-⪯-≺-trans {p} {q} {r} h k = record {
-  left = h .left;
-  right = k .right;
-  order =
-      lt-of-mul-lt-mul-right (q .bottom)
-      (omega (arith, mul-le-mul-right (r .bottom) (h .order), mul-lt-mul-of-pos-right {k = p .bottom} (k .order) (h .left)));
-}
-
 pub ≺-⪯-trans : {p q r : Fraction} → p ≺ q → q ⪯ r → p ≺ r
 ≺-⪯-trans {p} {q} {r} h k = record {
   left = h .left;
@@ -58,9 +46,6 @@ pub ≺-⪯-trans : {p q r : Fraction} → p ≺ q → q ⪯ r → p ≺ r
       lt-of-mul-lt-mul-right (q .bottom)
       (omega (arith, mul-lt-mul-of-pos-right {k = r .bottom} (h .order) (k .right), mul-le-mul-right (p .bottom) (k .order)));
 }
-
-pub ≺-trans : {p q r : Fraction} → p ≺ q → q ≺ r → p ≺ r
-≺-trans h k = ≺-⪯-trans h (≺-⪯ k)
 
 -- sums and products keep the order
 pub ⊕-mono : {p p' q q' : Fraction} → p ⪯ p' → q ⪯ q' → p ⊕ q ⪯ p' ⊕ q'
@@ -77,31 +62,3 @@ pub ⊗-mono : {p p' q q' : Fraction} → p ⪯ p' → q ⪯ q' → p ⊗ q ⪯ 
   right = mul-pos (h .right) (k .right);
   order = omega (arith, mul-le-mul (h .order) (k .order));
 }
-
--- a summand or a positive factor on both sides cancels
-pub ⊕-cancel : (p q r : Fraction) → p ⊕ r ⪯ q ⊕ r → p ⪯ q
-⊕-cancel p q r h =
-    let pb : 0 < p .bottom = pos-left _ _ (h .left) in
-    let qb : 0 < q .bottom = pos-left _ _ (h .right) in
-    let rb : 0 < r .bottom = pos-right (p .bottom) _ (h .left) in
-    record {
-      left = pb;
-      right = qb;
-      order =
-          le-of-mul-le-mul-right {k = r .bottom * r .bottom}
-          (let o : (p .top * r .bottom + r .top * p .bottom) * (q .bottom * r .bottom) ≤ (q .top * r .bottom + r .top * q .bottom) * (p .bottom * r .bottom) = h .order in
-          omega arith)
-          (mul-pos rb rb);
-    }
-
-pub ⊗-cancel : (p q r : Fraction) → 0 < r .top → p ⊗ r ⪯ q ⊗ r → p ⪯ q
-⊗-cancel p q r ht h =
-    let rb : 0 < r .bottom = pos-right (p .bottom) _ (h .left) in
-    record {
-      left = pos-left _ _ (h .left);
-      right = pos-left _ _ (h .right);
-      order =
-          le-of-mul-le-mul-right {k = r .top * r .bottom}
-          (let o : p .top * r .top * (q .bottom * r .bottom) ≤ q .top * r .top * (p .bottom * r .bottom) = h .order in omega arith)
-          (mul-pos ht rb);
-    }

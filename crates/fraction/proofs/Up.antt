@@ -5,7 +5,7 @@ use mathlib.Core.Path.{_≡_}
 use native.Mathlib.Omega.{arith}
 use native.Mathlib.Nat.{div-add-mod', mod-lt, mul-le-mul-right, lt-of-mul-lt-mul-right, le-antisymm, mul-pos}
 use Rattle.fraction.specs.Fraction.{Fraction, _⊘_, whole, _⪯_, up}
-use Rattle.fraction.proofs.Order.{⪯-trans}
+use Rattle.fraction.proofs.Order.{same, ⪯-trans}
 
 pub up-ge : (a b : ℕ) → 0 < b → a ≤ up (a ⊘ b) * b
 unfolding up
@@ -33,6 +33,10 @@ up-least {q} {n} h = up-le (q .top) (q .bottom) n (h .left) (omega (arith, h .or
 
 pub up-mono : {p q : Fraction} → p ⪯ q → up p ≤ up q
 up-mono {p} {q} h = up-least (⪯-trans h (up-above q (h .right)))
+
+-- fractions with equal cross products round alike
+pub up-same : (a b c d : ℕ) → 0 < b → 0 < d → a * d ≡ c * b → up (a ⊘ b) ≡ up (c ⊘ d)
+up-same a b c d hb hd e = le-antisymm (up-mono (same hb hd e .0)) (up-mono (same hb hd e .1))
 
 pub up-zero : (b : ℕ) → 0 < b → up (0 ⊘ b) ≡ 0
 up-zero b h = up-unique 0 b 0 h (omega arith) (omega arith)

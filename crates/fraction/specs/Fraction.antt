@@ -17,15 +17,13 @@ a ⊘ b = record { top = a; bottom = b }
 abbrev pub whole : ℕ → Fraction
 whole n = n ⊘ 1
 
--- sum
+-- sum, product and quotient
 abbrev pub _⊕_ : Fraction → Fraction → Fraction
 p ⊕ q = (p .top * q .bottom + q .top * p .bottom) ⊘ (p .bottom * q .bottom)
 
--- product
 abbrev pub _⊗_ : Fraction → Fraction → Fraction
 p ⊗ q = (p .top * q .top) ⊘ (p .bottom * q .bottom)
 
--- quotient
 abbrev pub _÷_ : Fraction → Fraction → Fraction
 p ÷ q = (p .top * q .bottom) ⊘ (p .bottom * q .top)
 

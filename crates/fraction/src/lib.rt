@@ -29,14 +29,14 @@ impl Quotient {
         }
     }
 
-    // Long division: one digit of 11 bits more, so that the number divided is 2048 times as large.
-    pub fn append(self, d: u64) -> Quotient
-        requires { ⌜ (self .rest < d) × (d < 2 ^ 53) × (self .whole < 2 ^ 52) ⌝ }
-        ensures { λ r. ⌜ (r .whole * d + r .rest ≡ 2048 * (self .whole * d + self .rest)) × (r .rest < d) ⌝ }
+    // Long division: the number divided is `factor` times as large. A factor of 2048 gives one digit of 11 bits more.
+    pub fn times(self, d: u64, factor: u64) -> Quotient
+        requires { ⌜ (self .rest < d) × (d * factor < 2 ^ 64) × (self .whole * factor + factor < 2 ^ 64) ⌝ }
+        ensures { λ r. ⌜ (r .whole * d + r .rest ≡ (self .whole * d + self .rest) * factor) × (r .rest < d) ⌝ }
     {
-        let next = self.rest * 2048;
+        let next = self.rest * factor;
         Quotient {
-            whole: self.whole * 2048 + next / d,
+            whole: self.whole * factor + next / d,
             rest: next % d,
         }
     }
@@ -50,7 +50,7 @@ fn digits(n: u64, d: u64, count: u64) -> Quotient
     let mut q = Quotient::of(n, d);
     let mut i = 0;
     while i < count {
-        q = q.append(d);
+        q = q.times(d, 2048);
         i += 1;
     }
     q

@@ -1,1 +1,2 @@
 pub mod Strakes
+pub mod Handed

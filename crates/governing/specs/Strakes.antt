@@ -1,11 +1,9 @@
 -- Of two strake lists the one that governs a bin with two products. Document 01, "Answer list".
 use Prim.Native.Nat.{ℕ, _-_}
-use mathlib.Core.Path.{_≡_}
 use mathlib.Core.Bool.{cond}
-use mathlib.Core.List.{List, []}
+use mathlib.Core.List.{List}
 use lib.ListN.{length, getD}
 use lib.Dec.{ltb, eqb}
-use denote.Ref.{RefT, ptr, now}
 use Rattle.governing.specs.declared.Governs.{Governs}
 use Rattle.governing.specs.declared.Governs.the-variants.{Neither, First, Second}
 
@@ -23,9 +21,3 @@ abbrev pub governs-number : Governs → ℕ
 governs-number Neither = 0
 governs-number First = 1
 governs-number Second = 2
-
--- the slice handed back of two lent ones: the caller's own, or an empty part of the first, which begins where the first does
-abbrev pub Handed : Governs → RefT (List ℕ) → RefT (List ℕ) → RefT (List ℕ) → Type 0
-Handed Neither first second r = (now r ≡ []) × (ptr r ≡ ptr first)
-Handed First first second r = r ≡ first
-Handed Second first second r = r ≡ second

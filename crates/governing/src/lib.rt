@@ -1,6 +1,9 @@
 // Of two strake lists the one that governs a bin with two products. Document 01, "Answer list".
 ghost use mathlib.Core.Path.{_≡_};
-ghost use Rattle.governing.specs.Strakes.{governs, governs-number, Handed};
+ghost use Prim.Native.Nat.{_<_};
+ghost use lib.ListN.{length};
+ghost use Rattle.governing.specs.Strakes.{last, governs, governs-number};
+ghost use Rattle.governing.specs.Handed.{Handed};
 
 // Which of two strake lists governs.
 pub enum Governs {
@@ -9,18 +12,25 @@ pub enum Governs {
     Second,
 }
 
+// The last number, at the wall's foot.
+fn last(list: &[u32]) -> u32
+    requires { ⌜ 0 < length (now list) ⌝ }
+    ensures { λ r. ⌜ r ≡ last (now (list .entry)) ⌝ }
+{
+    list[list.len() - 1]
+}
+
 // The one with the greater last number, the first when equal; neither if the lengths differ or are 0.
 pub fn which(first: &[u32], second: &[u32]) -> Governs
     ensures { λ r. ⌜ r ≡ governs (now (first .entry)) (now (second .entry)) ⌝ }
 {
-    let n = first.len();
-    if n != second.len() {
+    if first.len() != second.len() {
         return Governs::Neither;
     }
-    if n == 0 {
+    if first.len() == 0 {
         return Governs::Neither;
     }
-    if first[n - 1] < second[n - 1] {
+    if last(first) < last(second) {
         return Governs::Second;
     }
     Governs::First

@@ -1,4 +1,3 @@
 pub mod Least
 pub mod Root
 pub mod Hopper
-pub mod Mixed

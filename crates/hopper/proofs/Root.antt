@@ -26,41 +26,28 @@ reached μ n = 90 * μ * (n * n) * 1
 abbrev meets : ℕ → ℕ → ℕ → Bool
 meets μ b n = at-most (whole b ⊗ whole b) (squared μ (whole n))
 
-pub n3-meets : (μ b : ℕ) → 10 ≤ μ → 1000 * (b * b) ≤ 9 * μ * (n3 μ b * n3 μ b)
+n3-meets : (μ b : ℕ) → 10 ≤ μ → 1000 * (b * b) ≤ 9 * μ * (n3 μ b * n3 μ b)
 unfolding n3
 n3-meets μ b h =
     let bound : meets μ b (4 * b) ≡ true = le-leb (due b) (reached μ (4 * b)) (omega (arith, mul-le-mul-right (b * b) h)) in
     omega (arith, leb-true (due b) (reached μ (least (meets μ b) (4 * b))) (least-passes (meets μ b) (4 * b) bound))
 
-pub n3-first : (μ b m : ℕ) → m < n3 μ b → 9 * μ * (m * m) < 1000 * (b * b)
+n3-first : (μ b m : ℕ) → m < n3 μ b → 9 * μ * (m * m) < 1000 * (b * b)
 unfolding n3
 n3-first μ b m h = omega (arith, leb-false (due b) (reached μ m) (found (meets μ b) (4 * b) .none-below m h))
 
-pub n3-unique :
-    (μ b n : ℕ) →
-    n ≤ 4 * b →
-    1000 * (b * b) ≤ 9 * μ * (n * n) →
-    ((m : ℕ) → m < n → 9 * μ * (m * m) < 1000 * (b * b)) →
+pub n3-unique : (μ b n : ℕ) → n ≤ 4 * b → 1000 * (b * b) ≤ 9 * μ * (n * n) → ((m : ℕ) → m < n → 9 * μ * (m * m) < 1000 * (b * b)) →
     n ≡ n3 μ b
 unfolding n3
 n3-unique μ b n within passes none =
-    least-unique
-    (meets μ b)
-    (4 * b)
-    n
-    within
-    (le-leb (due b) (reached μ n) (omega arith))
+    least-unique (meets μ b) (4 * b) n within (le-leb (due b) (reached μ n) (omega arith))
     (λ m h. lt-leb (due b) (reached μ m) (omega (arith, none m h)))
-
-pub n3-range : (μ b : ℕ) → n3 μ b ≤ 4 * b
-unfolding n3
-n3-range μ b = found (meets μ b) (4 * b) .within
 
 -- squares keep the order, both ways
 pub square-le : {m n : ℕ} → m ≤ n → m * m ≤ n * n
 square-le h = mul-le-mul h h
 
-pub le-of-square : (m n : ℕ) → m * m ≤ n * n → m ≤ n
+le-of-square : (m n : ℕ) → m * m ≤ n * n → m ≤ n
 le-of-square m n h = at (decLe m n)
   where
     at : Dec (m ≤ n) → m ≤ n
@@ -76,26 +63,11 @@ root-above μ b c u hm hc hu =
       left = pos-left (u .bottom) _ y;
       right = omega arith;
       order =
-          le-of-square
-          (u .top * 1)
-          (n * u .bottom)
-          (squares
-          (c .top)
-          (c .bottom)
-          (u .top)
-          (u .bottom)
-          n
-          (hc .left)
-          (omega (arith, hc .order))
-          (n3-meets μ b hm)
-          (hu .order));
+          le-of-square (u .top * 1) (n * u .bottom)
+          (squares (c .top) (c .bottom) (u .top) (u .bottom) n (hc .left) (omega (arith, hc .order)) (n3-meets μ b hm) (hu .order));
     }
   where
-    squares :
-        (s t x y n : ℕ) →
-        0 < t →
-        s ≤ b * t →
-        1000 * (b * b) ≤ 9 * μ * (n * n) →
+    squares : (s t x y n : ℕ) → 0 < t → s ≤ b * t → 1000 * (b * b) ≤ 9 * μ * (n * n) →
         90 * μ * (x * x) * (t * t) ≤ s * s * (10000 * (y * y)) →
         x * 1 * (x * 1) ≤ n * y * (n * y)
     squares s t x y n ht hs hn hx =
@@ -104,7 +76,7 @@ root-above μ b c u hm hc hu =
         (mul-pos {m = 90 * μ} (omega arith) (mul-pos ht ht))
 
 -- the step from n3 to B - 1
-pub root-step : (μ w k : ℕ) → 10 ≤ μ → μ * ((w + 10) * (w + 10)) < 1000 * ((k + 1) * (k + 1)) → μ * (w * w) ≤ 1000 * (k * k)
+root-step : (μ w k : ℕ) → 10 ≤ μ → μ * ((w + 10) * (w + 10)) < 1000 * ((k + 1) * (k + 1)) → μ * (w * w) ≤ 1000 * (k * k)
 root-step μ w k hm h = at (decLe (μ * (w * w)) (1000 * (k * k))) (decLe (100 * k) (μ * w))
   where
     at : Dec (μ * (w * w) ≤ 1000 * (k * k)) → Dec (100 * k ≤ μ * w) → μ * (w * w) ≤ 1000 * (k * k)
@@ -135,13 +107,5 @@ root-near μ c hm hc = at (3 * n3 μ (up c) - 13) refl
           left = omega arith;
           right = mul-pos hc hc;
           order =
-              lower
-              m
-              (suc w)
-              (up c)
-              (c .top)
-              (c .bottom)
-              (omega arith)
-              (n3-first μ (up c) m (omega arith))
-              (up-lt (c .top) (c .bottom) hc);
+              lower m (suc w) (up c) (c .top) (c .bottom) (omega arith) (n3-first μ (up c) m (omega arith)) (up-lt (c .top) (c .bottom) hc);
         }

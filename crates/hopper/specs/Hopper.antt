@@ -8,7 +8,6 @@ use Rattle.janssen.specs.declared.Section.{Section}
 use Rattle.janssen.specs.declared.Product.{Product}
 use Rattle.janssen.specs.Section.{R}
 use Rattle.janssen.specs.Filling.{upper-factor, lower-factor, hundredths}
-use Rattle.allowance.specs.Allowance.{Lower}
 use Rattle.hopper.specs.Least.{least}
 
 -- sin²α and cos²α, α from the horizontal
@@ -63,7 +62,7 @@ pub record Low : Type 0 where
   pub v : Fraction
   pub u : Fraction
 
--- v is a lower fraction of p_vf(V), and 0.9·μ·u² ≤ (3·R·γ·1.15·Ks·sin²α)²
-pub record LowerHopper (P q : Fraction) (μ : ℕ) (base : Fraction) (x : Low) : Type 0 where
-  pub pressure : Lower P q (x .v)
+-- v is a lower fraction of the pressure p_vf(V), and 0.9·μ·u² ≤ (3·R·γ·1.15·Ks·sin²α)²
+pub record LowerHopper (Pressure : Fraction → Type 0) (μ : ℕ) (base : Fraction) (x : Low) : Type 0 where
+  pub pressure : Pressure (x .v)
   pub root : squared μ (x .u) ⪯ base ⊗ base

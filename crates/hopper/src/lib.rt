@@ -9,25 +9,13 @@ use janssen::Pascals;
 use janssen::Product;
 use janssen::Section;
 
-// A number of whole·d + rest, multiplied.
-fn times(q: Quotient, d: u64, factor: u64) -> Quotient
-    requires { ⌜ (q .rest < d) × (d ≤ 400000000000) × (q .whole ≤ 2 ^ 36) × (factor ≤ 25000) ⌝ }
-    ensures { λ r. ⌜ (r .whole * d + r .rest ≡ (q .whole * d + q .rest) * factor) × (r .rest < d) ⌝ }
-{
-    let next = q.rest * factor;
-    Quotient {
-        whole: q.whole * factor + next / d,
-        rest: next % d,
-    }
-}
-
 // n·factor²/d rounded up once.
 fn squared_up(n: u64, d: u64, factor: u64) -> u64
     requires { ⌜ (0 < d) × (d ≤ 400000000000) × (n ≤ 2587500 * d) × (factor ≤ 25000) ⌝ }
     ensures { λ r. ⌜ r ≡ up ((n * (factor * factor)) ⊘ d) ⌝ }
 {
-    let once = times(Quotient::of(n, d), d, factor);
-    let twice = times(once, d, factor);
+    let once = Quotient::of(n, d).times(d, factor);
+    let twice = once.times(d, factor);
     if twice.rest == 0 {
         twice.whole
     } else {

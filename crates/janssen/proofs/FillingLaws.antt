@@ -8,10 +8,11 @@ use native.Mathlib.Nat.{mul-le-mul-right, le-of-mul-le-mul-right, mul-le-mul, su
 use Rattle.fraction.specs.Fraction.{Fraction, _⊘_, whole, _⪯_, up}
 use Rattle.fraction.proofs.Order.{compare, ⪯-refl, ⪯-trans, ⊕-mono, ⊗-mono}
 use Rattle.fraction.proofs.Up.{up-ge, up-lt, up-le, up-mono, up-zero}
-use Rattle.exponential.specs.Series.{S, Below, Reaches}
+use Rattle.exponential.specs.Series.{S}
+use Rattle.exponential.specs.Table.{Below}
 use Rattle.exponential.specs.program.Lower.{lower}
 use Rattle.exponential.proofs.Terms.{S-positive}
-use Rattle.exponential.proofs.LowerLaws.{lower-below, lower-reaches, lower-falls, lower-zero, lower-le, below-anti}
+use Rattle.exponential.proofs.LowerLaws.{Reaches, lower-below, lower-reaches, lower-falls, lower-zero, lower-le, below-anti}
 use Rattle.janssen.specs.declared.Section.{Section}
 use Rattle.janssen.specs.declared.Product.{Product}
 use Rattle.janssen.specs.Section.{R}
@@ -172,16 +173,7 @@ unfolding limit
 limit-most k s p i =
     up-le (P k s p .top * 2 ^ 11) (P k s p .bottom * 1) (most k * 2 ^ 11) (omega (arith, P-pos s p i k)) (omega (arith, P-most s p i k))
 
-pub filling-most : (k : Kind) (s : Section) (p : Product) (z : ℕ) → InRange s p → filling k s p z ≤ most k
-unfolding filling pressure
-filling-most k s p z i =
-    up-le _ (2 ^ 51) (most k) (omega arith)
-    (omega (
-      arith,
-      mul-le-mul {m₁ = 2 ^ 40 - decay (step (factors k) s p) z} {m₂ = 2 ^ 40} (limit-most k s p i) (omega arith),
-    ))
-
--- a heavier product, otherwise alike, never has the smaller pressure
+-- a heavier product, otherwise alike, never has the smaller pressure: what C-23 asks rests on this
 module _ (s : Section) (p p' : Product) (i : InRange s p) (i' : InRange s p') (Ks-same : p .ratio ≡ p' .ratio) (μ-same : p .friction ≡ p' .friction)
     (heavier : p .weight ≤ p' .weight) where
   γR-mono : γR s p ⪯ γR s p'

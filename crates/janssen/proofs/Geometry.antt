@@ -7,7 +7,7 @@ use native.Mathlib.Nat.{le-trans, mul-le-mul, mul-le-mul-left, mul-le-mul-right,
 use Rattle.janssen.specs.declared.Section.{Section}
 use Rattle.janssen.specs.declared.Product.{Product}
 use Rattle.janssen.specs.Section.{side-a, side-b, d-c, R}
-use Rattle.janssen.specs.Filling.{Kind, factors, wall-load-factors, Ks, μ, z0, q, γR, P}
+use Rattle.janssen.specs.Filling.{Kind, factors, Ks, μ, z0, q, γR, P}
 use Rattle.janssen.specs.Filling.Kind.{horizontal, vertical, wall-friction}
 use Rattle.janssen.specs.program.Range.{InRange, InDepth}
 
@@ -88,6 +88,15 @@ module _ (s : Section) (p : Product) (i : InRange s p) where
     mul-le-mul-left (side-a s + side-b s) (mul-le-mul (i .μ-in .least) (i .Ks-in .least)),
   )
 
+  -- d_c
+  pub d-c-positive : 0 < d-c s
+  unfolding d-c
+  d-c-positive = omega (arith, a-pos, b-pos)
+
+  pub d-c-most : d-c s ≤ 50000
+  unfolding d-c
+  d-c-most = omega (arith, i .a-in .most)
+
   -- z·(a + b) ≤ 20·a·b in a slender silo
   depth-sides : (z : ℕ) → InDepth s z → (side-a s + side-b s) * z ≤ 20 * (side-a s * side-b s)
   unfolding d-c
@@ -157,26 +166,22 @@ module _ (s : Section) (p : Product) (i : InRange s p) where
       )
 
   -- z0 and D for P_w
-  pub z0-pos : 0 < z0 wall-load-factors s p .bottom
+  pub z0-pos : 0 < z0 (factors wall-friction) s p .bottom
   unfolding z0 R Ks μ
   z0-pos = omega (arith, a-pos, sides-least)
-
-  pub z0-top-pos : 0 < z0 wall-load-factors s p .top
-  unfolding z0 R Ks μ
-  z0-top-pos = omega (arith, ab-pos)
 
   pub γR-most : γR s p .top ≤ 375000 * γR s p .bottom
   unfolding γR R
   γR-most = omega (arith, weight-sides)
 
   -- D is below 177,300,000 N/m
-  pub D-most : γR s p .top * z0 wall-load-factors s p .top ≤ 177300000 * (γR s p .bottom * z0 wall-load-factors s p .bottom)
+  pub D-most : γR s p .top * z0 (factors wall-friction) s p .top ≤ 177300000 * (γR s p .bottom * z0 (factors wall-friction) s p .bottom)
   unfolding γR z0 R Ks μ
   D-most =
       omega (arith, mul-le-mul weight-sides sides-most, mul-le-mul-left (side-a s + side-b s) (sides-least .1))
 
   -- z0 = 2,000,000·a·b / (529·(a + b)·Ks·μ) mm
-  pub z0-is : z0 wall-load-factors s p .top * 1000 * q-top wall-friction s p ≡ q-bottom s * z0 wall-load-factors s p .bottom
+  pub z0-is : z0 (factors wall-friction) s p .top * 1000 * q-top wall-friction s p ≡ q-bottom s * z0 (factors wall-friction) s p .bottom
   unfolding z0 R Ks μ
   z0-is = omega arith
 

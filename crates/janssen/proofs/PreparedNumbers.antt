@@ -2,23 +2,19 @@
 use Prim.Native.Nat.{ℕ, _+_, _*_, _/_, _^_, _≤_, _<_}
 use mathlib.Core.Path.{_≡_, refl, sym, ap, _∙_}
 use native.Mathlib.Omega.{arith}
-use native.Mathlib.Nat.{mul-le-mul, le-antisymm, mul-div-mul-right, mul-comm}
+use native.Mathlib.Nat.{mul-le-mul, mul-div-mul-right, mul-comm}
 use Rattle.fraction.specs.Fraction.{_⊘_, up}
-use Rattle.fraction.proofs.Order.{same}
-use Rattle.fraction.proofs.Up.{up-mono}
+use Rattle.fraction.proofs.Up.{up-same}
 use Rattle.janssen.specs.declared.Section.{Section}
 use Rattle.janssen.specs.declared.Product.{Product}
 use Rattle.janssen.specs.declared.Prepared.{Prepared}
 use Rattle.janssen.specs.Section.{side-a, side-b}
-use Rattle.janssen.specs.Filling.{Kind, factors, wall-load-factors, q, z0, P}
+use Rattle.janssen.specs.Filling.{Kind, factors, q, z0, P}
 use Rattle.janssen.specs.Filling.Kind.{horizontal, vertical, wall-friction}
 use Rattle.janssen.specs.program.Range.{Within, InRange}
 use Rattle.janssen.specs.program.Pressure.{step, limit, z0-scaled}
 use Rattle.janssen.specs.program.Prepare.{prepared-for}
 use Rattle.janssen.proofs.Geometry.{q-top, q-bottom, q-bottom-pos, q-pos, q-is, P-top, P-bottom, P-bottom-pos, P-pos, P-is, z0-pos, z0-is, q-top-pos}
-
-up-equal : (a b c d : ℕ) → 0 < b → 0 < d → a * d ≡ c * b → up (a ⊘ b) ≡ up (c ⊘ d)
-up-equal a b c d hb hd e = let o = same hb hd e in le-antisymm (up-mono (o .0)) (up-mono (o .1))
 
 down-equal : (a b c d : ℕ) → 0 < b → 0 < d → a * d ≡ c * b → a / b ≡ c / d
 down-equal a b c d hb hd e =
@@ -28,7 +24,7 @@ module _ (s : Section) (p : Product) (i : InRange s p) where
   pub step-is : (k : Kind) → step (factors k) s p ≡ up ((q-top k s p * 2048 ^ 5) ⊘ q-bottom s)
   unfolding step
   step-is k =
-      up-equal (q (factors k) s p 1 .top * 2 ^ 55) (q (factors k) s p 1 .bottom * 1) (q-top k s p * 2048 ^ 5) (q-bottom s)
+      up-same (q (factors k) s p 1 .top * 2 ^ 55) (q (factors k) s p 1 .bottom * 1) (q-top k s p * 2048 ^ 5) (q-bottom s)
       (omega (arith, q-pos s p i k 1))
       (q-bottom-pos s p i)
       (omega (arith, q-is s p i k 1))
@@ -36,7 +32,7 @@ module _ (s : Section) (p : Product) (i : InRange s p) where
   pub limit-is : (k : Kind) → limit k s p ≡ up ((P-top k s p * 2048 ^ 1) ⊘ P-bottom k s p)
   unfolding limit
   limit-is k =
-      up-equal (P k s p .top * 2 ^ 11) (P k s p .bottom * 1) (P-top k s p * 2048 ^ 1) (P-bottom k s p)
+      up-same (P k s p .top * 2 ^ 11) (P k s p .bottom * 1) (P-top k s p * 2048 ^ 1) (P-bottom k s p)
       (omega (arith, P-pos s p i k))
       (P-bottom-pos s p i k)
       (omega (arith, P-is s p i k))
@@ -44,29 +40,31 @@ module _ (s : Section) (p : Product) (i : InRange s p) where
   pub z0-scaled-is : z0-scaled s p ≡ q-bottom s * 2048 ^ 1 / q-top wall-friction s p
   unfolding z0-scaled
   z0-scaled-is =
-      down-equal (z0 wall-load-factors s p .top * 2048000) (z0 wall-load-factors s p .bottom) (q-bottom s * 2048 ^ 1) (q-top wall-friction s p)
+      down-equal (z0 (factors wall-friction) s p .top * 2048000) (z0 (factors wall-friction) s p .bottom) (q-bottom s * 2048 ^ 1) (q-top wall-friction s p)
       (z0-pos s p i)
       (q-top-pos s p i)
       (omega (arith, z0-is s p i))
 
 -- the sizes of the numbers on the way
-pub side-sizes : {a b : ℕ} → Within 500 50000 a → Within 500 50000 b → (250000 ≤ a * b) × (a * b ≤ 2500000000)
+side-sizes : {a b : ℕ} → Within 500 50000 a → Within 500 50000 b → (250000 ≤ a * b) × (a * b ≤ 2500000000)
 side-sizes ha hb = (mul-le-mul (ha .least) (hb .least), mul-le-mul (ha .most) (hb .most))
 
-pub step-sizes : (row both : ℕ) {a b : ℕ} → row ≤ 529 → both ≤ 10000 → Within 500 50000 a → Within 500 50000 b →
-    (row * both ≤ 5290000) × (row * both * (a + b) ≤ 529000000000)
-step-sizes row both {a} {b} hr hc ha hb =
+pub step-sizes : {row both a b : ℕ} → (row ≤ 529) × (both ≤ 10000) × Within 500 50000 a × Within 500 50000 b →
+    (250000 ≤ a * b) × (a * b ≤ 2500000000) × (row * both ≤ 5290000) × (row * both * (a + b) ≤ 529000000000)
+step-sizes {row} {both} {a} {b} (hr, hc, ha, hb) =
     let s : a + b ≤ 100000 = omega (arith, ha .most, hb .most) in
-    (mul-le-mul hr hc, mul-le-mul (mul-le-mul hr hc) s)
+    let area = side-sizes ha hb in
+    (area .0, area .1, mul-le-mul hr hc, mul-le-mul (mul-le-mul hr hc) s)
 
-pub limit-sizes : (times over by weight : ℕ) {a b : ℕ} → times ≤ 500 → Within 1 2000 over → Within 1 10000 by → weight ≤ 30000 →
-    Within 500 50000 a → Within 500 50000 b →
-    (weight * (a * b) ≤ 75000000000000) × (times * (weight * (a * b)) ≤ 37500000000000000) × ((a + b) * by ≤ 1000000000) ×
-    (over * ((a + b) * by) ≤ 2000000000000) × (1000 ≤ over * ((a + b) * by))
-limit-sizes times over by weight {a} {b} ht ho hy hw ha hb =
+pub limit-sizes : {times over by weight a b : ℕ} →
+    (times ≤ 500) × Within 1 2000 over × Within 1 10000 by × (weight ≤ 30000) × Within 500 50000 a × Within 500 50000 b →
+    (a * b ≤ 2500000000) × (weight * (a * b) ≤ 75000000000000) × (times * (weight * (a * b)) ≤ 37500000000000000) ×
+    ((a + b) * by ≤ 1000000000) × (over * ((a + b) * by) ≤ 2000000000000) × (1000 ≤ over * ((a + b) * by))
+limit-sizes {times} {over} {by} {weight} {a} {b} (ht, ho, hy, hw, ha, hb) =
     let s : a + b ≤ 100000 = omega (arith, ha .most, hb .most) in
     let l : 1000 ≤ a + b = omega (arith, ha .least, hb .least) in
     let area = side-sizes ha hb .1 in (
+      area,
       mul-le-mul hw area,
       mul-le-mul ht (mul-le-mul hw area),
       mul-le-mul s (hy .most),
@@ -74,14 +72,16 @@ limit-sizes times over by weight {a} {b} ht ho hy hw ha hb =
       mul-le-mul (ho .least) (mul-le-mul l (hy .least)),
     )
 
-pub z0-least : (both : ℕ) {a b : ℕ} → Within 1 10000 both → Within 500 50000 a → Within 500 50000 b → 529000 ≤ 529 * both * (a + b)
-z0-least both {a} {b} hc ha hb =
+pub z0-sizes : {both a b : ℕ} → Within 1 10000 both × Within 500 50000 a × Within 500 50000 b →
+    (a * b ≤ 2500000000) × (529 * both * (a + b) ≤ 529000000000) × (529000 ≤ 529 * both * (a + b))
+z0-sizes {both} {a} {b} (hc, ha, hb) =
     let l : 1000 ≤ a + b = omega (arith, ha .least, hb .least) in
-    mul-le-mul {n₁ = 529} {m₁ = 1000} (omega (arith, hc .least)) l
+    let s = step-sizes {row = 529} (omega arith, hc .most, ha, hb) in
+    (s .1, s .3, mul-le-mul {n₁ = 529} {m₁ = 1000} (omega (arith, hc .least)) l)
 
 -- Ks·μ, in 1/10,000
-pub both-within : (s : Section) (p : Product) → InRange s p → (1 ≤ p .ratio * p .friction) × (p .ratio * p .friction ≤ 10000)
-both-within s p i =
+pub both-within : {s : Section} {p : Product} → InRange s p → (1 ≤ p .ratio * p .friction) × (p .ratio * p .friction ≤ 10000)
+both-within i =
     (omega (arith, mul-le-mul (i .Ks-in .least) (i .μ-in .least)), omega (arith, mul-le-mul (i .Ks-in .most) (i .μ-in .most)))
 
 -- the numbers from the calls are those of the definitions

@@ -11,16 +11,15 @@ use native.Mathlib.Nat.{add-zero, le-refl, le-trans, mul-le-mul, mul-le-mul-left
 use Rattle.fraction.specs.Fraction.{_⊘_, up}
 use Rattle.fraction.proofs.Order.{compare}
 use Rattle.fraction.proofs.Up.{up-ge, up-lt, up-le, up-mono}
-use Rattle.exponential.specs.Series.{Reaches}
 use Rattle.exponential.specs.program.Lower.{lower}
-use Rattle.exponential.proofs.LowerLaws.{lower-falls, lower-le}
+use Rattle.exponential.proofs.LowerLaws.{Reaches, lower-falls, lower-le}
 use Rattle.exponential.proofs.LowerDrop.{lower-anywhere, lower-first, lower-drop, lower-line, lower-once, lower-twice}
 use Rattle.janssen.specs.declared.Section.{Section}
 use Rattle.janssen.specs.declared.Product.{Product}
-use Rattle.janssen.specs.Filling.{wall-load-factors}
+use Rattle.janssen.specs.Filling.{factors}
 use Rattle.janssen.specs.Filling.Kind.{wall-friction}
 use Rattle.janssen.specs.program.Range.{InRange, InDepth}
-use Rattle.janssen.specs.program.Pressure.{step, limit, decay, z0-scaled, loaded-depth, load, wall-load}
+use Rattle.janssen.specs.program.Pressure.{step, limit, decay, z0-scaled, least-gone, loaded-depth, load, wall-load}
 use Rattle.janssen.proofs.Geometry.{q-top, q-bottom, q-top-pos, q-bottom-pos, q-least, q-most, P-top, P-bottom, γR-top-pos, P-bottom-pos}
 use Rattle.janssen.proofs.Argument.{argument-rises}
 use Rattle.janssen.proofs.FillingLaws.{Q-small, limit-most}
@@ -50,8 +49,8 @@ record Scaled (T Z : ℕ) : Type 0 where
 depth-rises : (Z E E' z : ℕ) → E' ≤ E → E * Z ≤ E' * Z + 2 ^ 51 → loaded-depth Z E z ≤ loaded-depth Z E' (z + 1)
 unfolding loaded-depth
 depth-rises Z E E' z f h =
-    let C : ℕ = 2 ^ 40 - E - 512 in
-    let C' : ℕ = 2 ^ 40 - E' - 512 in
+    let C : ℕ = least-gone E in
+    let C' : ℕ = least-gone E' in
     let c : C' + E' ≤ C + E = omega arith in
     let k : Z * C' ≤ Z * C + 2 ^ 51 = omega (arith, mul-le-mul-left Z c) in
     omega arith
@@ -74,7 +73,7 @@ module _ (T Z : ℕ) (r : Scaled T Z) where
       E * 2 ^ 27 + 2 ^ 34 * Q ≤ 2 ^ 67 + Q * Q → loaded-depth Z E z ≤ 5
   unfolding loaded-depth
   shallow E Q z near hQ once twice =
-      let C : ℕ = 2 ^ 40 - E - 512 in
+      let C : ℕ = least-gone E in
       let e : 2 ^ 40 - 100040000 ≤ E = omega (arith, z0-most) in
       let q : Q ≤ 782000 = omega (arith, mul-le-mul-right Q e) in
       let square : Z * (Q * Q) ≤ 971000000 * (782000 * 782000) = mul-le-mul z0-most (mul-le-mul q q) in
@@ -90,10 +89,10 @@ module _ (T Z : ℕ) (r : Scaled T Z) where
   unfolding loaded-depth
   deep E Q z line hQ pos most = go (decLe (2 ^ 40) (E + 512))
     where
-      go : Dec (2 ^ 40 ≤ E + 512) → 0 < z * 2 ^ 11 - Z * (2 ^ 40 - E - 512) / 2 ^ 40
-      go (yes l) = let none : 2 ^ 40 - E - 512 ≡ 0 = omega arith in rw none (omega arith)
+      go : Dec (2 ^ 40 ≤ E + 512) → 0 < z * 2 ^ 11 - Z * least-gone E / 2 ^ 40
+      go (yes l) = let none : least-gone E ≡ 0 = omega arith in rw none (omega arith)
       go (no l) =
-          let C : ℕ = 2 ^ 40 - E - 512 in
+          let C : ℕ = least-gone E in
           let c : 2 ^ 15 * C + 30 * 2 ^ 15 ≤ z * T = omega arith in
           let k : 2 ^ 15 * (Z * C) + 30 * 2 ^ 15 * Z ≤ 2 ^ 66 * z + z * Z =
           omega (arith, mul-le-mul-left Z c, mul-le-mul-left z (r .product-most)) in
@@ -158,7 +157,7 @@ module _ (s : Section) (p : Product) (i : InRange s p) where
   abbrev B : ℕ
   B = q-bottom s
 
-  scaled : Scaled (step wall-load-factors s p) (z0-scaled s p)
+  scaled : Scaled (step (factors wall-friction) s p) (z0-scaled s p)
   scaled =
       rw (step-is s p i wall-friction, z0-scaled-is s p i)
       (products A B (up ((A * 2048 ^ 5) ⊘ B)) (B * 2048 ^ 1 / A) (q-bottom-pos s p i)
@@ -179,7 +178,7 @@ module _ (s : Section) (p : Product) (i : InRange s p) where
   wall-load-next : (z : ℕ) → InDepth s (z + 1) → wall-load s p z ≤ wall-load s p (z + 1)
   unfolding wall-load decay
   wall-load-next z d =
-      load-next (step wall-load-factors s p) (z0-scaled s p) scaled z (d .wall) (Q-small wall-friction s p i (z + 1) d)
+      load-next (step (factors wall-friction) s p) (z0-scaled s p) scaled z (d .wall) (Q-small wall-friction s p i (z + 1) d)
       (limit wall-friction s p) limit-positive (limit-most wall-friction s p i)
 
   wall-load-deeper : (n z : ℕ) → InDepth s (z + n) → wall-load s p z ≤ wall-load s p (z + n)

@@ -16,7 +16,7 @@ module _ (A B u v L Z C X G w z s t : ℕ) where
       let k₃ : 2 ^ 40 * (A * z * v) ≤ 2 ^ 40 * (w * B * v * 1000) + A * u * C * 1000 = omega (arith, mul-le-mul-left (A * v) hG) in
       omega (arith, mul-le-mul-right s k₃, mul-le-mul-left (A * u) hs, ap (λ (x : ℕ). A * u * s * x) e)
 
-  pub load-close : (E : ℕ) → 2 ^ 40 ≤ C + 512 + E → C ≤ 2 ^ 40 → L * B ≤ A * 2048 + B → u * 2048000 ≤ Z * v + v → Z * C ≤ X * 2 ^ 40 + 2 ^ 40 →
+  pub load-close : (E : ℕ) → 2 ^ 40 ≤ C + 2048 + E → C ≤ 2 ^ 40 → L * B ≤ A * 2048 + B → u * 2048000 ≤ Z * v + v → Z * C ≤ X * 2 ^ 40 + 2 ^ 40 →
       G + X ≡ z * 2048 → z ≤ 2 ^ 17 → w * 4194304000 ≤ L * G + 4194304000 → E * s ≤ 2 ^ 40 * t → A ≤ 375000 * B → A * u ≤ 177300000 * (B * v) →
       (w * B * v * 1000 + A * u * 1000) * s ≤ A * u * 1000 * t + (A * z * v + 2 * B * v * 1000) * s
   load-close E e c hL hZ hX hG hz hw hs hA hD =

@@ -5,14 +5,9 @@ use Rattle.janssen.specs.declared.Section.{Section}
 use Rattle.janssen.specs.declared.Product.{Product}
 use Rattle.janssen.specs.Section.{metres, R}
 
--- the three filling pressures
+-- the filling pressures p_hf, p_vf and p_wf
 pub data Kind : Type 0 where
-  -- p_hf
-  horizontal : Kind
-  -- p_vf
-  vertical : Kind
-  -- p_wf
-  wall-friction : Kind
+  horizontal vertical wall-friction : Kind
 
 -- what Ks and μ are multiplied by
 pub record Factors : Type 0 where
@@ -26,14 +21,11 @@ upper-factor = 115 ⊘ 100
 abbrev pub lower-factor : Fraction
 lower-factor = 90 ⊘ 100
 
+-- the rows of the three pressures; P_w has that of p_wf
 abbrev pub factors : Kind → Factors
 factors horizontal = record { Ks-times = upper-factor; μ-times = lower-factor }
 factors vertical = record { Ks-times = lower-factor; μ-times = lower-factor }
 factors wall-friction = record { Ks-times = upper-factor; μ-times = upper-factor }
-
--- the row of P_w
-abbrev pub wall-load-factors : Factors
-wall-load-factors = record { Ks-times = upper-factor; μ-times = upper-factor }
 
 -- hundredths are plain ratios
 abbrev pub hundredths : ℕ → Fraction
@@ -66,7 +58,7 @@ P wall-friction s p = γR s p
 
 -- D = γR·z0, N/m
 unfoldable pub D : Section → Product → Fraction
-D s p = γR s p ⊗ z0 wall-load-factors s p
+D s p = γR s p ⊗ z0 (factors wall-friction) s p
 
 -- N = γR·z, N/m
 unfoldable pub N : Section → Product → ℕ → Fraction

@@ -1,13 +1,12 @@
 // Filling pressures by Janssen's formula. Source 001, clauses 5.2.1 and 7.3.
 ghost use mathlib.Core.Path.{_≡_};
-ghost use Prim.Native.Nat.{_+_, _*_, _/_, _^_, _<_, _≤_};
+ghost use Prim.Native.Nat.{_+_, _-_, _*_, _/_, _^_, _<_, _≤_};
 ghost use Rattle.fraction.specs.Fraction.{_⊘_, up};
 ghost use Rattle.exponential.specs.program.Table.{table};
 ghost use Rattle.janssen.specs.Section.{side-a, side-b, d-c};
-ghost use Rattle.janssen.specs.program.Range.{Within, InRange, InDepth};
-ghost use Rattle.janssen.specs.Filling.{Kind};
-ghost use Rattle.janssen.specs.program.Pressure.{decay, pressure, filling, loaded-depth, load};
-ghost use Rattle.janssen.specs.program.Prepare.{curve, prepared-for, filling-loads};
+ghost use Rattle.janssen.specs.program.Range.{Within, InRange};
+ghost use Rattle.janssen.specs.program.Pressure.{decay, pressure, loaded-depth, load};
+ghost use Rattle.janssen.specs.program.Prepare.{prepared-for, pressure-on, loads-on, Reaches, AllReach};
 
 // The cross-section, mm.
 pub enum Section {
@@ -150,8 +149,8 @@ fn decay_at(entries: &[u64; 3393], step: u64, z: u64) -> u64
 
 // P·(1 - e^(-q)), rounded up.
 fn pressure_of(limit: u64, decay: u64) -> Pascals
-    requires { ⌜ (limit < 2 ^ 36) × (decay ≤ 2 ^ 40) ⌝ }
-    ensures { λ r. ⌜ r .0 ≡ pressure limit decay ⌝ }
+    requires { ⌜ (limit ≤ 2 ^ 36 - 2 ^ 11) × (decay ≤ 2 ^ 40) ⌝ }
+    ensures { λ r. ⌜ (r .0 ≡ pressure limit decay) × (r .0 < 2 ^ 25) ⌝ }
 {
     let p = fraction::product_shifted_up(limit, 1099511627776 - decay);
     Pascals(p as u32)
@@ -159,8 +158,8 @@ fn pressure_of(limit: u64, decay: u64) -> Pascals
 
 // A filling pressure at the depth z mm: p_hf, p_wf or p_vf, by the curve of its kind.
 pub fn filling_pressure(entries: &[u64; 3393], of: Curve, z: u64) -> Pascals
-    requires { ⌜ (now entries ≡ table) × ((k : Kind) × (s : Section) × (p : Product) × InRange s p × InDepth s z × (of ≡ curve k s p)) ⌝ }
-    ensures { λ r. ⌜ ((k : Kind) (s : Section) (p : Product) → of ≡ curve k s p → r .0 ≡ filling k s p z) ⌝ }
+    requires { ⌜ (now entries ≡ table) × Reaches of z ⌝ }
+    ensures { λ r. ⌜ (r .0 ≡ pressure-on of z) × (r .0 < 2 ^ 25) ⌝ }
 {
     pressure_of(of.limit, decay_at(entries, of.step, z))
 }
@@ -189,10 +188,10 @@ fn load_of(limit: u64, depth: u64) -> NewtonsPerMetre
     NewtonsPerMetre(w as u32)
 }
 
-// The filling loads at the depth z mm, for the section and the product that `prepared` was made for.
+// The filling loads at the depth z mm.
 pub fn loads_at(entries: &[u64; 3393], prepared: Prepared, z: u64) -> FillingLoads
-    requires { ⌜ (now entries ≡ table) × ((s : Section) × (p : Product) × InRange s p × InDepth s z × (prepared ≡ prepared-for s p)) ⌝ }
-    ensures { λ r. ⌜ ((s : Section) (p : Product) → prepared ≡ prepared-for s p → r ≡ filling-loads s p z) ⌝ }
+    requires { ⌜ (now entries ≡ table) × AllReach prepared z ⌝ }
+    ensures { λ r. ⌜ (r ≡ loads-on prepared z) × (r .horizontal .0 < 2 ^ 25) × (r .«wall_friction» .0 < 2 ^ 25) ⌝ }
 {
     let wall = prepared.wall_friction;
     let decay = decay_at(entries, wall.step, z);

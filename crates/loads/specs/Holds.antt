@@ -7,45 +7,44 @@ use Rattle.janssen.specs.Filling.{Kind, factors, q, P}
 use Rattle.janssen.specs.Filling.Kind.{horizontal, vertical, wall-friction}
 use Rattle.janssen.specs.Band.{FillingBand, WallLoadBand}
 use Rattle.allowance.specs.Allowance.{Lower, Allowance}
-use Rattle.discharge.specs.Discharge.{discharged, patch, floor}
+use Rattle.discharge.specs.Discharge.{magnified, patch, C-b}
 use Rattle.hopper.specs.Hopper.{Low, base, hopper-normal, hopper-friction, LowerHopper}
+use Rattle.loads.specs.declared.Silo.{Silo}
 use Rattle.loads.specs.Load.{Load}
-use Rattle.loads.specs.Load.{Silo, load-depth, C-h, C-w}
+use Rattle.loads.specs.Load.{load-depth, C-h, C-w}
 use Rattle.loads.specs.Load.Load.{listed-depth, p-hf, p-wf, p-vf, P-w, p-he, p-we, p-p}
 
 -- a filling pressure lies less than 2 above the exact value
 abbrev pub InBand : Kind → Silo → ℕ → ℕ → Type 0
-InBand k c depth n = FillingBand (whole 2) k (c .section) (c .product) (load-depth c depth) n
+InBand k c depth = FillingBand (whole 2) k (c .section) (c .product) (load-depth c depth)
 
--- a load that rests on the filling pressure of kind k at a depth: at or above its unrounded formula F, and less than w above it
-abbrev pub RestsOn : Kind → Silo → ℕ → (Fraction → Fraction) → ℕ → ℕ → Type 0
-RestsOn k c depth F w n =
-    Allowance (Lower (P k (c .section) (c .product)) (q (factors k) (c .section) (c .product) (load-depth c depth))) F w n
+-- the lower fractions of the filling pressure of kind k at a depth
+abbrev pub LowerAt : Kind → Silo → ℕ → Fraction → Type 0
+LowerAt k c depth = Lower (P k (c .section) (c .product)) (q (factors k) (c .section) (c .product) (load-depth c depth))
 
--- what holds of a load's number n at a depth
+-- what holds of a load's number n at a depth: it lies in its band, or above its formula by less than its allowance
 abbrev pub Holds : Silo → Load → ℕ → ℕ → Type 0
 Holds c listed-depth depth n = n ≡ depth
 Holds c p-hf depth n = InBand horizontal c depth n
 Holds c p-wf depth n = InBand wall-friction c depth n
 Holds c p-vf depth n = InBand vertical c depth n
 Holds c P-w depth n = WallLoadBand (c .section) (c .product) (load-depth c depth) n
-Holds c p-he depth n = RestsOn horizontal c depth (discharged (C-h c)) 5 n
-Holds c p-we depth n = RestsOn wall-friction c depth (discharged (C-w c)) 4 n
-Holds c p-p depth n = RestsOn horizontal c depth (λ v. patch (c .eccentricity) (d-c (c .section)) (discharged (C-h c) v)) 3 n
+Holds c p-he depth n = Allowance (LowerAt horizontal c depth) (magnified (C-h c)) 5 n
+Holds c p-we depth n = Allowance (LowerAt wall-friction c depth) (magnified (C-w c)) 4 n
+Holds c p-p depth n = Allowance (LowerAt horizontal c depth) (λ v. patch (c .eccentricity) (d-c (c .section)) (magnified (C-h c) v)) 3 n
 
--- a load of the hopper, that rests on p_vf(V) and n3
-abbrev pub HopperRests : Silo → (Low → Fraction) → ℕ → ℕ → Type 0
-HopperRests c F w n =
-    Allowance
-    (LowerHopper (P vertical (c .section) (c .product)) (q (factors vertical) (c .section) (c .product) (load-depth c (c .foot)))
-    (c .product .friction) (base (c .section) (c .product) (c .height) (c .run)))
-    F w n
+-- what the hopper's formulas are filled with: lower fractions of p_vf(V) and n3
+abbrev pub LowerFoot : Silo → Low → Type 0
+LowerFoot c = LowerHopper (LowerAt vertical c (c .foot)) (c .product .friction) (base (c .section) (c .product) (c .height) (c .run))
 
--- the bottom's ten numbers: the flat floor where there is no run, else P_n and P_t at k quarters of the hopper's slope
+-- P_n unrounded, at k quarters of the hopper's slope
+abbrev pub normal-at : Silo → ℕ → Low → Fraction
+normal-at c k l = hopper-normal (c .height) (c .run) k (l .v) (l .u)
+
+-- the bottom's ten numbers: the flat floor where there is no run, else P_n and P_t at k quarters
 pub record BottomHolds (c : Silo) (at : ℕ → ℕ) : Type 0 where
-  pub floor-holds : c .run ≡ 0 → RestsOn vertical c (c .foot) floor 4 (at 0)
+  pub floor-holds : c .run ≡ 0 → Allowance (LowerAt vertical c (c .foot)) (magnified C-b) 4 (at 0)
   pub zeros : c .run ≡ 0 → (k : ℕ) → k < 9 → at (suc k) ≡ 0
-  pub P-n-holds : 0 < c .run → (k : ℕ) → k ≤ 4
-      → HopperRests c (λ l. hopper-normal (c .height) (c .run) k (l .v) (l .u)) 8 (at k)
+  pub P-n-holds : 0 < c .run → (k : ℕ) → k ≤ 4 → Allowance (LowerFoot c) (normal-at c k) 8 (at k)
   pub P-t-holds : 0 < c .run → (k : ℕ) → k ≤ 4
-      → HopperRests c (λ l. hopper-friction (c .product .friction) (hopper-normal (c .height) (c .run) k (l .v) (l .u))) 10 (at (5 + k))
+      → Allowance (LowerFoot c) (λ l. hopper-friction (c .product .friction) (normal-at c k l)) 10 (at (5 + k))

@@ -1,33 +1,29 @@
 -- The loads by name, and the number of each. Document 01, "Sheet", "Loads made from filling" and "Answer list". Lengths in mm; pressures in
 -- Pa, P_w in N/m. The filling pressures and P_w are free: f names them.
-use Prim.Native.Nat.{ℕ, zero, suc}
-use mathlib.Core.List.{List, [], _∷_}
+use Prim.Native.Nat.{ℕ}
+use mathlib.Core.Bool.{cond}
+use mathlib.Core.List.{List, [], _∷_, _++_, map}
+use lib.Dec.{eqb}
+use lib.ListN.{replicate}
 use Rattle.fraction.specs.Fraction.{Fraction, _⊘_}
-use Rattle.janssen.specs.declared.Section.{Section}
-use Rattle.janssen.specs.declared.Product.{Product}
 use Rattle.janssen.specs.Section.{d-c}
 use Rattle.janssen.specs.Filling.{Kind, hundredths}
 use Rattle.janssen.specs.Filling.Kind.{horizontal, vertical, wall-friction}
 use Rattle.janssen.specs.Numbers.{FillingNumbers}
-use Rattle.discharge.specs.Discharge.{discharge-load, patch-load, floor-load}
+use Rattle.discharge.specs.Discharge.{magnified-load, patch-load, C-b}
 use Rattle.hopper.specs.Hopper.{B, n3, P-n, P-t}
+use Rattle.loads.specs.declared.Silo.{Silo}
 
 -- the eight numbers of a depth: z as the sheet has it, p_hf, p_wf, p_vf, P_w, p_he, p_we, p_p
 pub data Load : Type 0 where
   listed-depth p-hf p-wf p-vf P-w p-he p-we p-p : Load
 
--- what the loads rest on
-pub record Silo : Type 0 where
-  pub section : Section
-  -- γ, Ks, μ, C0
-  pub product : Product
-  -- e, the larger of e_i, e_o
-  pub eccentricity : ℕ
-  -- H and r
-  pub height : ℕ
-  pub run : ℕ
-  -- the wall's foot, V
-  pub foot : ℕ
+-- the loads that are set by section, product and depth alone
+pub data OfFilling : Load → Type 0 where
+  of-p-hf : OfFilling p-hf
+  of-p-wf : OfFilling p-wf
+  of-p-vf : OfFilling p-vf
+  of-P-w : OfFilling P-w
 
 -- the depth at which loads are worked out, below the equivalent surface: this lies at the brim
 unfoldable pub load-depth : Silo → ℕ → ℕ
@@ -51,21 +47,24 @@ number f c p-hf depth = pressure-at f c horizontal depth
 number f c p-wf depth = pressure-at f c wall-friction depth
 number f c p-vf depth = pressure-at f c vertical depth
 number f c P-w depth = f .wall-load-at (c .section) (c .product) (load-depth c depth)
-number f c p-he depth = discharge-load (C-h c) (pressure-at f c horizontal depth)
-number f c p-we depth = discharge-load (C-w c) (pressure-at f c wall-friction depth)
-number f c p-p depth = patch-load (c .eccentricity) (d-c (c .section)) (discharge-load (C-h c) (pressure-at f c horizontal depth))
+number f c p-he depth = magnified-load (C-h c) (pressure-at f c horizontal depth)
+number f c p-we depth = magnified-load (C-w c) (pressure-at f c wall-friction depth)
+number f c p-p depth = patch-load (c .eccentricity) (d-c (c .section)) (magnified-load (C-h c) (pressure-at f c horizontal depth))
 
--- P_n for k = 0..4 and P_t for k = 0..4, the quarters of the slope, from n3 = n and p_vf(V) = x; μ in hundredths
-abbrev pub quarters : ℕ → ℕ → ℕ → ℕ → ℕ → List ℕ
-quarters H r μ n x =
-    P-n H r 0 n x ∷ P-n H r 1 n x ∷ P-n H r 2 n x ∷ P-n H r 3 n x ∷ P-n H r 4 n x
-    ∷ P-t μ (P-n H r 0 n x) ∷ P-t μ (P-n H r 1 n x) ∷ P-t μ (P-n H r 2 n x) ∷ P-t μ (P-n H r 3 n x) ∷ P-t μ (P-n H r 4 n x) ∷ []
+-- P_n and P_t at k quarters of the hopper's slope, from p_vf(V)
+abbrev pub normal-number : FillingNumbers → Silo → ℕ → ℕ
+normal-number f c k =
+    P-n (c .height) (c .run) k (n3 (c .product .friction) (B (c .section) (c .product) (c .height) (c .run))) (number f c p-vf (c .foot))
 
--- the ten numbers of the bottom from p_vf(V) = x: floor and nine zeros where there is no run, else the hopper's
-unfoldable pub ten : Section → Product → ℕ → ℕ → ℕ → List ℕ
-ten s p H zero x = floor-load x ∷ 0 ∷ 0 ∷ 0 ∷ 0 ∷ 0 ∷ 0 ∷ 0 ∷ 0 ∷ 0 ∷ []
-ten s p H (suc r) x = quarters H (suc r) (p .friction) (n3 (p .friction) (B s p H (suc r))) x
+abbrev pub friction-number : FillingNumbers → Silo → ℕ → ℕ
+friction-number f c k = P-t (c .product .friction) (normal-number f c k)
 
--- the numbers of the bottom, at the wall's foot
-abbrev pub bottom-numbers : FillingNumbers → Silo → List ℕ
-bottom-numbers f c = ten (c .section) (c .product) (c .height) (c .run) (number f c p-vf (c .foot))
+-- the quarters, counted up from the outlet
+abbrev pub quarters : List ℕ
+quarters = 0 ∷ 1 ∷ 2 ∷ 3 ∷ 4 ∷ []
+
+-- the ten numbers of the bottom: floor and nine zeros where there is no run, else P_n for k = 0..4 and P_t for k = 0..4
+unfoldable pub bottom-numbers : FillingNumbers → Silo → List ℕ
+bottom-numbers f c =
+    cond (eqb (c .run) 0) (magnified-load C-b (number f c p-vf (c .foot)) ∷ replicate 9 0)
+    (map (normal-number f c) quarters ++ map (friction-number f c) quarters)

@@ -1,76 +1,69 @@
-// The numbers of the answer list: of a depth, of the bottom, of a strake.
+// The numbers of the loads: of a depth, of the bottom, of a strake.
 ghost use mathlib.Core.Path.{_≡_};
-ghost use Prim.Native.Nat.{max, _*_, _^_, _<_, _≤_};
+ghost use mathlib.Core.List.{_++_, map};
+ghost use Prim.Native.Nat.{_^_, _<_, _≤_};
 ghost use Rattle.janssen.specs.program.Range.{InRange};
 ghost use Rattle.hopper.specs.Hopper.{P-n, P-t};
 ghost use Rattle.exponential.specs.program.Table.{table};
-ghost use Rattle.loads.specs.program.Rows.{eight, depth-row};
-ghost use Rattle.loads.specs.Load.{number, quarters, ten, bottom-numbers};
-ghost use Rattle.loads.specs.Load.Load.{p-he};
-ghost use Rattle.loads.specs.program.Basis.{basis-for, silo-from, silo-in, Reached, Sound};
+ghost use Rattle.loads.specs.Load.{number, quarters, normal-number, friction-number, bottom-numbers};
+ghost use Rattle.loads.specs.Load.Load.{p-vf, p-he};
+ghost use Rattle.loads.specs.program.Basis.{basis-for, Reached, Fits, Sound, depth-numbers};
 ghost use Rattle.janssen.specs.program.Pressure.{computed};
-use janssen::FillingLoads;
 use janssen::Pascals;
 use janssen::Prepared;
 use janssen::Product;
 use janssen::Section;
 
-// What the loads of a sheet rest on, worked out once.
-pub struct Basis {
+// A silo as its loads see it.
+pub struct Silo {
     pub section: Section,
     pub product: Product,
-    pub prepared: Prepared,
-    // e, mm
+    // e, the larger of e_i and e_o, mm
     pub eccentricity: u64,
-    // d_c, mm
-    pub shorter: u64,
     // H and r, mm
     pub height: u64,
     pub run: u64,
-    // the wall's foot, mm
+    // V, the wall's foot, mm below the brim
     pub foot: u64,
 }
 
-// The basis from section, product, the eccentricities of filling and outlet, the hopper's height and run, and the wall's foot, mm.
-pub fn basis_of(
-    section: Section,
-    product: Product,
-    filling: u64,
-    outlet: u64,
-    height: u64,
-    run: u64,
-    foot: u64,
-) -> Basis
-    requires { ⌜ InRange section product ⌝ }
-    ensures { λ r. ⌜ r ≡ basis-for (silo-from section product (max filling outlet) height run foot) ⌝ }
+// What is worked out once for a silo.
+pub struct Basis {
+    pub silo: Silo,
+    pub prepared: Prepared,
+    // d_c, mm
+    pub shorter: u64,
+}
+
+pub fn basis_of(silo: Silo) -> Basis
+    requires { ⌜ InRange (silo .section) (silo .product) ⌝ }
+    ensures { λ r. ⌜ r ≡ basis-for silo ⌝ }
 {
+    let section = silo.section;
+    let product = silo.product;
     let prepared = janssen::prepare(section, product);
-    let eccentricity = discharge::eccentricity(filling, outlet);
     let shorter = janssen::shorter_side(section);
     Basis {
-        section,
-        product,
+        silo,
         prepared,
-        eccentricity,
         shorter,
-        height,
-        run,
-        foot,
     }
 }
 
-// The eight numbers at the depth z mm from its filling loads; factor is C0 in hundredths, e and d = d_c in mm.
-fn eight_numbers(filling: FillingLoads, factor: u64, e: u64, d: u64, z: u32) -> [u32; 8]
-    requires { ⌜ (filling .horizontal .0 < 2 ^ 25) × (filling .«wall_friction» .0 < 2 ^ 25) × (factor ≤ 200) × (0 < d) × (d ≤ 50000) × (4 * e ≤ d) ⌝ }
-    ensures { λ r. ⌜ r ≡ eight factor e d z (filling .horizontal .0) (filling .«wall_friction» .0) (filling .vertical .0) (filling .«wall_load» .0) ⌝ }
+// The eight numbers of the depth z mm below the brim.
+pub fn depth_numbers(entries: &[u64; 3393], basis: Basis, z: u64) -> [u32; 8]
+    requires { ⌜ (now entries ≡ table) × Sound basis × Reached (basis .silo) z ⌝ }
+    ensures { λ r. ⌜ r ≡ depth-numbers (basis .silo) z ⌝ }
 {
+    let prepared = basis.prepared;
+    let filling = janssen::loads_at(entries, prepared, z);
     let p_hf = filling.horizontal;
     let p_wf = filling.wall_friction;
-    let p_he = discharge::horizontal_discharge(factor, p_hf);
+    let p_he = discharge::horizontal_discharge(basis.silo.product.factor, p_hf);
     let p_we = discharge::friction_discharge(p_wf);
-    let p_p = discharge::patch(e, d, p_he);
+    let p_p = discharge::patch(basis.silo.eccentricity, basis.shorter, p_he);
     [
-        z,
+        z as u32,
         p_hf.0,
         p_wf.0,
         filling.vertical.0,
@@ -106,11 +99,18 @@ fn quarter(
     HopperLoads { normal, friction }
 }
 
-// P_n and then P_t at the five quarters.
-fn hopper_row(height: u64, run: u64, friction: u64, filling: u64, vertical: Pascals) -> [u32; 10]
-    requires { ⌜ (height ≤ 25000) × (0 < run) × (run ≤ 25000) × (friction ≤ 100) × (filling ≤ 10350000) × (vertical .0 < 2 ^ 25) ⌝ }
-    ensures { λ r. ⌜ r ≡ quarters height run friction filling (vertical .0) ⌝ }
+// P_n and then P_t at the five quarters, from p_vf at the wall's foot.
+fn hopper_numbers(silo: Silo, vertical: Pascals) -> [u32; 10]
+    requires { ⌜ Fits silo × (0 < silo .run) × (vertical .0 ≡ number computed silo p-vf (silo .foot)) × (vertical .0 < 2 ^ 25) ⌝ }
+    ensures { λ r. ⌜ r ≡ map (normal-number computed silo) quarters ++ map (friction-number computed silo) quarters ⌝ }
 {
+    let section = silo.section;
+    let product = silo.product;
+    let height = silo.height;
+    let run = silo.run;
+    let friction = product.friction;
+    let base = hopper::hopper_base(section, product, height, run);
+    let filling = hopper::hopper_filling(friction, base);
     let outlet = quarter(height, run, 0, friction, filling, vertical);
     let first = quarter(height, run, 1, friction, filling, vertical);
     let second = quarter(height, run, 2, friction, filling, vertical);
@@ -130,64 +130,30 @@ fn hopper_row(height: u64, run: u64, friction: u64, filling: u64, vertical: Pasc
     ]
 }
 
-// The ten numbers of the bottom, height and run in mm, from p_vf at the wall's foot; no run is a flat floor.
-fn ten_numbers(
-    section: Section,
-    product: Product,
-    height: u64,
-    run: u64,
-    vertical: Pascals,
-) -> [u32; 10]
-    requires { ⌜ (InRange section product) × (height ≤ 25000) × (run ≤ 25000) × (vertical .0 < 2 ^ 25) ⌝ }
-    ensures { λ r. ⌜ r ≡ ten section product height run (vertical .0) ⌝ }
-{
-    if run == 0 {
-        let floor = discharge::floor(vertical);
-        return [floor.0, 0, 0, 0, 0, 0, 0, 0, 0, 0];
-    }
-    let base = hopper::hopper_base(section, product, height, run);
-    let friction = product.friction;
-    let filling = hopper::hopper_filling(friction, base);
-    hopper_row(height, run, friction, filling, vertical)
-}
-
-// The eight numbers of the answer list at the depth z mm.
-pub fn depth_numbers(entries: &[u64; 3393], basis: Basis, z: u64) -> [u32; 8]
-    requires { ⌜ (now entries ≡ table) × Sound basis × Reached (silo-in basis) z ⌝ }
-    ensures { λ r. ⌜ r ≡ depth-row (silo-in basis) z ⌝ }
-{
-    let prepared = basis.prepared;
-    let filling = janssen::loads_at(entries, prepared, z);
-    eight_numbers(
-        filling,
-        basis.product.factor,
-        basis.eccentricity,
-        basis.shorter,
-        z as u32,
-    )
-}
-
-// The ten numbers of the bottom.
+// The ten numbers of the bottom; no run is a flat floor.
 pub fn bottom_numbers(entries: &[u64; 3393], basis: Basis) -> [u32; 10]
     requires { ⌜ (now entries ≡ table) × Sound basis ⌝ }
-    ensures { λ r. ⌜ r ≡ bottom-numbers computed (silo-in basis) ⌝ }
+    ensures { λ r. ⌜ r ≡ bottom-numbers computed (basis .silo) ⌝ }
 {
     let prepared = basis.prepared;
     let curve = prepared.vertical;
-    let section = basis.section;
-    let product = basis.product;
-    let vertical = janssen::filling_pressure(entries, curve, basis.foot);
-    ten_numbers(section, product, basis.height, basis.run, vertical)
+    let silo = basis.silo;
+    let vertical = janssen::filling_pressure(entries, curve, silo.foot);
+    if silo.run == 0 {
+        let floor = discharge::floor(vertical);
+        return [floor.0, 0, 0, 0, 0, 0, 0, 0, 0, 0];
+    }
+    hopper_numbers(silo, vertical)
 }
 
 // A strake's number: p_he at its lower edge, edge mm below the brim.
 pub fn strake_number(entries: &[u64; 3393], basis: Basis, edge: u64) -> u32
-    requires { ⌜ (now entries ≡ table) × Sound basis × Reached (silo-in basis) edge ⌝ }
-    ensures { λ r. ⌜ r ≡ number computed (silo-in basis) p-he edge ⌝ }
+    requires { ⌜ (now entries ≡ table) × Sound basis × Reached (basis .silo) edge ⌝ }
+    ensures { λ r. ⌜ r ≡ number computed (basis .silo) p-he edge ⌝ }
 {
     let prepared = basis.prepared;
     let curve = prepared.horizontal;
     let horizontal = janssen::filling_pressure(entries, curve, edge);
-    let load = discharge::horizontal_discharge(basis.product.factor, horizontal);
+    let load = discharge::horizontal_discharge(basis.silo.product.factor, horizontal);
     load.0
 }

@@ -1,12 +1,12 @@
--- Rules that hold, and tests that are true, taken apart and put together.
-use Prim.Native.Nat.{ℕ, zero, suc, _≤_}
+-- Tests that are true, taken apart and put together.
+use Prim.Native.Nat.{ℕ, _≤_}
 use mathlib.Core.Bool.{Bool, true, false, _&&_, _||_}
 use mathlib.Core.Logic.{_⊎_, inl, inr}
 use mathlib.Core.Path.{_≡_, refl}
 use native.Mathlib.Omega.{arith}
 use borrow.Author.Tests.{leb-true, le-leb}
 use lib.Dec.{leb}
-use Rattle.records.specs.Rules.{within, must, orElse}
+use Rattle.records.specs.Rules.{within}
 
 pub absurd : {A : Type 0} → ⊥ → A
 absurd x = elim x [ ]
@@ -34,20 +34,3 @@ within-true low high x h =
 
 pub true-within : (low high x : ℕ) → low ≤ x → x ≤ high → within low high x ≡ true
 true-within low high x l h = simp (le-leb low x l, le-leb x high h)
-
--- a rule whose number is not 0 holds when its test is true
-pub must-true : (b : Bool) (n : ℕ) → must b (suc n) ≡ 0 → b ≡ true
-must-true true n h = refl
-must-true false n h = absurd (omega arith)
-
--- no refusal among several: none of each
-pub orElse-0 : (a b : ℕ) → orElse a b ≡ 0 → (a ≡ 0) × (b ≡ 0)
-orElse-0 zero b h = (refl, h)
-orElse-0 (suc a) b h = omega arith
-
-pub orElse-skip : (a b : ℕ) → a ≡ 0 → orElse a b ≡ b
-orElse-skip a b h = rw h
-
-pub orElse-stop : (a b : ℕ) → (a ≡ 0 → ⊥) → orElse a b ≡ a
-orElse-stop zero b h = absurd (h refl)
-orElse-stop (suc a) b h = refl

@@ -1,10 +1,10 @@
 -- The sheet's bytes: little-endian numbers and six records. Document 01, "Sheet".
-use Prim.Native.Nat.{ℕ, zero, suc, _+_, _*_, _%_}
-use mathlib.Core.List.{List, [], _∷_}
+use Prim.Native.Nat.{ℕ, zero, suc, _+_, _*_, _/_, _%_}
+use mathlib.Core.List.{List, [], _∷_, _++_}
 use mathlib.Core.Bool.{Bool, _&&_, _||_}
 use lib.ListN.{length, getD}
 use lib.Dec.{leb, eqb}
-use Rattle.records.specs.Rules.{within, must, orElse, firstOf}
+use Rattle.records.specs.Rules.{within, Rule, _unless_}
 
 -- a little-endian number at a place; what lies past the end is 0
 unfoldable pub u16 : List ℕ → ℕ → ℕ
@@ -12,6 +12,17 @@ u16 s at = getD s at 0 + 256 * getD s (at + 1) 0
 
 unfoldable pub u32 : List ℕ → ℕ → ℕ
 u32 s at = u16 s at + 65536 * u16 s (at + 2)
+
+-- the bytes of a number, little-endian
+abbrev pub two-bytes : ℕ → List ℕ
+two-bytes n = n % 256 ∷ n / 256 % 256 ∷ []
+
+abbrev pub four-bytes : ℕ → List ℕ
+four-bytes n = two-bytes n ++ two-bytes (n / 65536)
+
+-- a record: the length of its payload, its kind, the payload
+abbrev pub record-bytes : ℕ → List ℕ → List ℕ
+record-bytes t l = two-bytes (length l) ++ two-bytes t ++ l
 
 -- n numbers read from a place on, each step bytes after the one before
 unfoldable pub numbers : (ℕ → ℕ) → ℕ → ℕ → ℕ → List ℕ
@@ -33,12 +44,12 @@ unfoldable pub payload : List ℕ → ℕ → ℕ
 payload s k = place s k + 4
 
 -- the kind due: k + 2; the section's is 1 or 2
-unfoldable pub due : ℕ → ℕ → Bool
+abbrev pub due : ℕ → ℕ → Bool
 due k t = eqb t (k + 2) || (eqb k 0 && eqb t 1)
 
 -- by kind, 1 to 7: a payload is of step, 2 step, .. up to most bytes; 1 to 24 strakes of 2, 1 to 200 depths of 4
 abbrev pub step-of : ℕ → ℕ
-step-of t = getD (0 ∷ 4 ∷ 8 ∷ 10 ∷ 8 ∷ 8 ∷ 2 ∷ 4 ∷ []) t 0
+step-of t = getD (1 ∷ 4 ∷ 8 ∷ 10 ∷ 8 ∷ 8 ∷ 2 ∷ 4 ∷ []) t 0
 
 abbrev pub most-of : ℕ → ℕ
 most-of t = getD (0 ∷ 4 ∷ 8 ∷ 10 ∷ 8 ∷ 8 ∷ 48 ∷ 800 ∷ []) t 0
@@ -48,20 +59,19 @@ unfoldable pub allowed : ℕ → ℕ → Bool
 allowed t n = within (step-of t) (most-of t) n && eqb (n % step-of t) 0
 
 -- record k, which begins at a place: header present, kind due, length allowed, payload present
-unfoldable pub record-rule : List ℕ → ℕ → ℕ → ℕ
-record-rule s at k =
-    firstOf
-    (must (leb (at + 4) (length s)) 2
-    ∷ must (due k (u16 s (at + 2))) 3
-    ∷ must (allowed (u16 s (at + 2)) (u16 s at)) 4
-    ∷ must (leb (at + 4 + u16 s at) (length s)) 2
-    ∷ [])
+unfoldable pub record-rules : List ℕ → ℕ → ℕ → List Rule
+record-rules s at k =
+    2 unless leb (at + 4) (length s)
+    ∷ 3 unless due k (u16 s (at + 2))
+    ∷ 4 unless allowed (u16 s (at + 2)) (u16 s at)
+    ∷ 2 unless leb (at + 4 + u16 s at) (length s)
+    ∷ []
 
 -- n records in order, from record k on; then nothing may be left over
-unfoldable pub records-rule : List ℕ → ℕ → ℕ → ℕ
-records-rule s zero k = must (eqb (place s k) (length s)) 5
-records-rule s (suc n) k = orElse (record-rule s (place s k) k) (records-rule s n (suc k))
+unfoldable pub records-rules : List ℕ → ℕ → ℕ → List Rule
+records-rules s zero k = 5 unless eqb (place s k) (length s) ∷ []
+records-rules s (suc n) k = record-rules s (place s k) k ++ records-rules s n (suc k)
 
 -- at most 1,024 bytes, then the six records
-unfoldable pub layout-rule : List ℕ → ℕ
-layout-rule s = orElse (must (leb (length s) 1024) 1) (records-rule s 6 0)
+unfoldable pub layout-rules : List ℕ → List Rule
+layout-rules s = 1 unless leb (length s) 1024 ∷ records-rules s 6 0

@@ -1,10 +1,10 @@
--- A sheet is not refused exactly when it is `Accepted`: the first refusal is 0 when each rule is, and each rule's tests
--- are the inequalities of `Accepted`.
-use Prim.Native.Nat.{ℕ, _*_, _≤_}
-use mathlib.Core.Bool.{true, _&&_, _||_}
+-- A sheet is not refused exactly when it is `Accepted`: no rule of the chain refuses when each is met, and each rule's test says the
+-- inequalities of `Accepted`.
+use Prim.Native.Nat.{ℕ, _*_}
+use mathlib.Core.Bool.{true, _&&_, _||_, false≢true}
 use mathlib.Core.List.{List}
 use mathlib.Core.Logic.{_⊎_, inl, inr, ⊎-elim}
-use mathlib.Core.Path.{_≡_, ap}
+use mathlib.Core.Path.{_≡_, refl, _∙_}
 use native.Mathlib.Omega.{arith}
 use borrow.Author.Tests.{leb-true, ltb-true, eqb-true, le-leb, lt-ltb, eq-eqb}
 use lib.Dec.{leb, ltb, eqb}
@@ -12,165 +12,155 @@ use lib.ListN.{length}
 use Rattle.janssen.specs.declared.Section.{Section}
 use Rattle.janssen.specs.declared.Product.{Product}
 use Rattle.janssen.specs.Section.{side-a, side-b, d-c}
-use Rattle.description.specs.declared.Eccentricities.{Eccentricities}
+use Rattle.janssen.specs.program.Range.{Within, InRange}
 use Rattle.description.specs.declared.Bottom.{Bottom}
-use Rattle.records.specs.Rules.{within, must}
-use Rattle.records.specs.Format.{u32, layout-rule}
-use Rattle.description.specs.Silo.{section-of, product-sent, eccentricities-of, bottom-of, strakes-of, depths-of, depth-count, V-of, h-of}
-use Rattle.sheet.specs.Refusal.{sides-rule, product-rule, eccentricities-rule, flat, hopper, bottom-rule, strakes-within, strakes-rule, rising, depths-rule, shape-rule, values-rule, refusal-of}
-use Rattle.sheet.specs.Accepted.{Hopper, Values, Accepted}
-use Rattle.records.proofs.Tests.{both-true, either-true, either-right, within-true, true-within, must-true, orElse-0}
+use Rattle.records.specs.Rules.{within, first-unmet}
+use Rattle.records.specs.Format.{u32, record-rules, records-rules, layout-rules}
+use Rattle.records.proofs.Tests.{both-true, either-true, either-right, within-true, true-within}
+use Rattle.records.proofs.Chain.{numbered, met-at, met, apart, skipped, among}
 use Rattle.records.proofs.Numbers.{numbers-length}
-use Rattle.sheet.proofs.Heights.{strakes-within-at, at-strakes-within, rising-most, rising-next, next-rising}
+use Rattle.description.specs.Silo.{section-of, product-sent, eccentricities-of, bottom-of, strakes-of, depths-of, depth-count, V-of, h-of}
 use Rattle.description.proofs.Walls.{strakes-length}
-use Rattle.sheet.proofs.Layouts.{layout-of, of-layout}
+use Rattle.sheet.specs.Refusal.{side-met, sides-met, product-met, flat, hopper, value-rules, sheet-rules, refusal-of}
+use Rattle.sheet.specs.Accepted.{Hopper, Accepted}
+use Rattle.sheet.proofs.Heights.{strakes-met-at, at-strakes-met, rising-most, rising-next, next-rising}
+use Rattle.sheet.proofs.Layouts.{layout-numbered, layout-of, of-layout}
 
 pub depths-length : (s : List ℕ) → length (depths-of s) ≡ depth-count s
 unfolding depths-of
 depths-length s = numbers-length (u32 s) 4 _ (depth-count s)
 
+-- a number that passes the test of a range
+in-within : (low high x : ℕ) → within low high x ≡ true → Within low high x
+in-within low high x h = let p = within-true low high x h in record { least = p .0; most = p .1 }
+
+within-in : {low high x : ℕ} → Within low high x → within low high x ≡ true
+within-in {low} {high} {x} w = true-within low high x (w .least) (w .most)
+
+-- 6 and 7
+range-of : (c : Section) (p : Product) → sides-met c ≡ true → product-met p ≡ true → InRange c p × ((p .factor ≡ 0) ⊎ Within 100 200 (p .factor))
+unfolding sides-met
+range-of c p hs hp =
+    let sides = both-true (side-met (side-a c)) (side-met (side-b c)) hs in
+    let w = within 1000 30000 (p .weight) in
+    let k = within 20 100 (p .ratio) in
+    let m = within 10 100 (p .friction) in
+    let f = eqb (p .factor) 0 || within 100 200 (p .factor) in
+    let q3 = both-true (w && k && m) f hp in
+    let q2 = both-true (w && k) m (q3 .0) in
+    let q1 = both-true w k (q2 .0) in (
+      record {
+        a-in = in-within 500 50000 (side-a c) (sides .0);
+        b-in = in-within 500 50000 (side-b c) (sides .1);
+        γ-in = in-within 1000 30000 (p .weight) (q1 .0);
+        Ks-in = in-within 20 100 (p .ratio) (q1 .1);
+        μ-in = in-within 10 100 (p .friction) (q2 .1);
+      },
+      ⊎-elim (λ e. inl (eqb-true (p .factor) 0 e)) (λ e. inr (in-within 100 200 (p .factor) e)) (either-true (eqb (p .factor) 0) (within 100 200 (p .factor)) (q3 .1)),
+    )
+
+of-sides : (c : Section) (p : Product) → InRange c p → sides-met c ≡ true
+unfolding sides-met
+of-sides c p i = simp (within-in (i .a-in), within-in (i .b-in))
+
+of-factor : (c : ℕ) → (c ≡ 0) ⊎ Within 100 200 c → (eqb c 0 || within 100 200 c) ≡ true
+of-factor c x = ⊎-elim (λ e. simp (eq-eqb c 0 e)) (λ w. either-right (eqb c 0) (within 100 200 c) (within-in w)) x
+
+of-product : (c : Section) (p : Product) → InRange c p → (p .factor ≡ 0) ⊎ Within 100 200 (p .factor) → product-met p ≡ true
+of-product c p i x = simp (within-in (i .γ-in), within-in (i .Ks-in), within-in (i .μ-in), of-factor (p .factor) x)
+
+-- 9
 hopper-of : (dc : ℕ) (b : Bottom) → hopper dc b ≡ true → Hopper dc b
-unfolding hopper
 hopper-of dc b h =
-    let p = both-true (leb 1 (b .run)) _ h in
-    let q = both-true (ltb (2 * b .run) dc) _ (p .1) in
-    let r = both-true (leb (b .height) 25000) _ (q .1) in
+    let some = leb 1 (b .run) in
+    let narrow = ltb (2 * b .run) dc in
+    let low = leb (b .height) 25000 in
+    let p = both-true (some && narrow && low) (leb (363971 * b .run) (1000000 * b .height)) h in
+    let q = both-true (some && narrow) low (p .0) in
+    let r = both-true some narrow (q .0) in
     record {
-      run-some = leb-true 1 (b .run) (p .0);
-      run-narrow = ltb-true (2 * b .run) dc (q .0);
-      height-most = leb-true (b .height) 25000 (r .0);
-      steep = leb-true (363971 * b .run) (1000000 * b .height) (r .1);
+      run-some = leb-true 1 (b .run) (r .0);
+      run-narrow = ltb-true (2 * b .run) dc (r .1);
+      height-most = leb-true (b .height) 25000 (q .1);
+      steep = leb-true (363971 * b .run) (1000000 * b .height) (p .1);
     }
 
-bottom-of-rule : (dc : ℕ) (b : Bottom) → bottom-rule dc b ≡ 0 → ((b .height ≡ 0) × (b .run ≡ 0)) ⊎ Hopper dc b
-unfolding bottom-rule flat
-bottom-of-rule dc b h =
+bottom-shape : (dc : ℕ) (b : Bottom) → (flat b || hopper dc b) ≡ true → ((b .height ≡ 0) × (b .run ≡ 0)) ⊎ Hopper dc b
+bottom-shape dc b h =
     ⊎-elim
     (λ f. let p = both-true (eqb (b .height) 0) (eqb (b .run) 0) f in inl (eqb-true (b .height) 0 (p .0), eqb-true (b .run) 0 (p .1)))
     (λ f. inr (hopper-of dc b f))
-    (either-true (flat b) (hopper dc b) (must-true (flat b || hopper dc b) 8 h))
+    (either-true (flat b) (hopper dc b) h)
 
-rule-of-bottom : (dc : ℕ) (b : Bottom) → ((b .height ≡ 0) × (b .run ≡ 0)) ⊎ Hopper dc b → bottom-rule dc b ≡ 0
-unfolding bottom-rule flat hopper
-rule-of-bottom dc b x =
-    ⊎-elim
-    (λ p. simp (eq-eqb (b .height) 0 (p .0), eq-eqb (b .run) 0 (p .1)))
+of-bottom : (dc : ℕ) (b : Bottom) → ((b .height ≡ 0) × (b .run ≡ 0)) ⊎ Hopper dc b → (flat b || hopper dc b) ≡ true
+of-bottom dc b x =
+    ⊎-elim (λ p. simp (eq-eqb (b .height) 0 (p .0), eq-eqb (b .run) 0 (p .1)))
     (λ h.
-    let e : hopper dc b ≡ true =
-    simp (
+    either-right (flat b) (hopper dc b)
+    (simp (
       le-leb 1 (b .run) (h .run-some),
       lt-ltb (2 * b .run) dc (h .run-narrow),
       le-leb (b .height) 25000 (h .height-most),
       le-leb (363971 * b .run) (1000000 * b .height) (h .steep),
-    ) in
-    ap (λ t. must t 9) (either-right (flat b) (hopper dc b) e))
+    )))
     x
-
-factor-of : (c : ℕ) → (eqb c 0 || within 100 200 c) ≡ true → (c ≡ 0) ⊎ ((100 ≤ c) × (c ≤ 200))
-factor-of c h = ⊎-elim (λ e. inl (eqb-true c 0 e)) (λ e. inr (within-true 100 200 c e)) (either-true (eqb c 0) (within 100 200 c) h)
-
-of-factor : (c : ℕ) → (c ≡ 0) ⊎ ((100 ≤ c) × (c ≤ 200)) → (eqb c 0 || within 100 200 c) ≡ true
-of-factor c x =
-    ⊎-elim (λ e. simp (eq-eqb c 0 e))
-    (λ p. either-right (eqb c 0) (within 100 200 c) (true-within 100 200 c (p .0) (p .1)))
-    x
-
-module _ (c : Section) (p : Product) (e : Eccentricities) (b : Bottom) where
-  pub values-of : sides-rule c ≡ 0 → product-rule p ≡ 0 → eccentricities-rule (d-c c) e ≡ 0 → bottom-rule (d-c c) b ≡ 0 → Values c p e b
-  unfolding sides-rule product-rule eccentricities-rule
-  values-of hs hp he hb =
-      let t = both-true (within 500 50000 (side-a c)) (within 500 50000 (side-b c)) (must-true (within 500 50000 (side-a c) && within 500 50000 (side-b c)) 5 hs) in
-      let a = within-true 500 50000 (side-a c) (t .0) in
-      let w = within-true 500 50000 (side-b c) (t .1) in
-      let p1 = orElse-0 (must (within 1000 30000 (p .weight)) 7) _ hp in
-      let p2 = orElse-0 (must (within 20 100 (p .ratio)) 7) _ (p1 .1) in
-      let p3 = orElse-0 (must (within 10 100 (p .friction)) 7) _ (p2 .1) in
-      let p4 = orElse-0 (must (eqb (p .factor) 0 || within 100 200 (p .factor)) 7) 0 (p3 .1) in
-      let w1 = within-true 1000 30000 (p .weight) (must-true (within 1000 30000 (p .weight)) 6 (p1 .0)) in
-      let w2 = within-true 20 100 (p .ratio) (must-true (within 20 100 (p .ratio)) 6 (p2 .0)) in
-      let w3 = within-true 10 100 (p .friction) (must-true (within 10 100 (p .friction)) 6 (p3 .0)) in
-      let x = both-true (leb (4 * e .inlet) (d-c c)) (leb (4 * e .outlet) (d-c c)) (must-true (leb (4 * e .inlet) (d-c c) && leb (4 * e .outlet) (d-c c)) 7 he) in
-      record {
-        a-least = a .0;
-        a-most = a .1;
-        b-least = w .0;
-        b-most = w .1;
-        weight-least = w1 .0;
-        weight-most = w1 .1;
-        ratio-least = w2 .0;
-        ratio-most = w2 .1;
-        friction-least = w3 .0;
-        friction-most = w3 .1;
-        factor-range = factor-of (p .factor) (must-true (eqb (p .factor) 0 || within 100 200 (p .factor)) 6 (p4 .0));
-        inlet-most = leb-true (4 * e .inlet) (d-c c) (x .0);
-        outlet-most = leb-true (4 * e .outlet) (d-c c) (x .1);
-        bottom-shape = bottom-of-rule (d-c c) b hb;
-      }
-
-  sides-hold : Values c p e b → sides-rule c ≡ 0
-  unfolding sides-rule
-  sides-hold v = simp (true-within 500 50000 (side-a c) (v .a-least) (v .a-most), true-within 500 50000 (side-b c) (v .b-least) (v .b-most))
-
-  product-holds : Values c p e b → product-rule p ≡ 0
-  unfolding product-rule
-  product-holds v =
-      simp (
-        true-within 1000 30000 (p .weight) (v .weight-least) (v .weight-most),
-        true-within 20 100 (p .ratio) (v .ratio-least) (v .ratio-most),
-        true-within 10 100 (p .friction) (v .friction-least) (v .friction-most),
-        of-factor (p .factor) (v .factor-range),
-      )
-
-  eccentricities-hold : Values c p e b → eccentricities-rule (d-c c) e ≡ 0
-  unfolding eccentricities-rule
-  eccentricities-hold v = simp (le-leb (4 * e .inlet) (d-c c) (v .inlet-most), le-leb (4 * e .outlet) (d-c c) (v .outlet-most))
 
 -- not refused: accepted
 pub accepted : (s : List ℕ) → refusal-of s ≡ 0 → Accepted s
-unfolding refusal-of values-rule strakes-rule depths-rule shape-rule
+unfolding refusal-of sheet-rules value-rules
 accepted s h =
     let dc = d-c (section-of s) in
-    let l = orElse-0 (layout-rule s) (values-rule s) h in
-    let v1 = orElse-0 (sides-rule (section-of s)) _ (l .1) in
-    let v2 = orElse-0 (product-rule (product-sent s)) _ (v1 .1) in
-    let v3 = orElse-0 (eccentricities-rule dc (eccentricities-of s)) _ (v2 .1) in
-    let v4 = orElse-0 (bottom-rule dc (bottom-of s)) _ (v3 .1) in
-    let v5 = orElse-0 (must (strakes-within (strakes-of s)) 10) _ (v4 .1) in
-    let v6 = orElse-0 (must (rising (V-of s) 0 (depths-of s)) 11) _ (v5 .1) in
-    let v7 = orElse-0 (must (ltb (h-of s) (10 * dc)) 12) (must (leb (3 * dc) (2 * h-of s)) 13) (v6 .1) in
-    let k = must-true (strakes-within (strakes-of s)) 9 (v5 .0) in
-    let z = must-true (rising (V-of s) 0 (depths-of s)) 10 (v6 .0) in
+    let e = eccentricities-of s in
+    let parts = apart (value-rules s) (layout-rules s) (layout-numbered s) h in
+    let m : (i : ℕ) → met-at (value-rules s) i ≡ true = met (value-rules s) refl (parts .1) in
+    let ranges = range-of (section-of s) (product-sent s) (m 0) (m 1) in
+    let central = both-true (leb (4 * e .inlet) dc) (leb (4 * e .outlet) dc) (m 2) in
     let n = strakes-length s in
-    let m = depths-length s in
+    let d = depths-length s in
     record {
-      layout = layout-of s (l .0);
-      values = values-of (section-of s) (product-sent s) (eccentricities-of s) (bottom-of s) (v1 .0) (v2 .0) (v3 .0) (v4 .0);
-      strakes-least = λ i j. strakes-within-at (strakes-of s) k i (omega arith) .0;
-      strakes-most = λ i j. strakes-within-at (strakes-of s) k i (omega arith) .1;
-      depths-most = λ i j. rising-most (V-of s) 0 (depths-of s) z i (omega arith);
-      depths-rise = λ i j. rising-next (V-of s) 0 (depths-of s) z i (omega arith);
-      slender = ltb-true (h-of s) (10 * dc) (must-true (ltb (h-of s) (10 * dc)) 11 (v7 .0));
-      tall = leb-true (3 * dc) (2 * h-of s) (must-true (leb (3 * dc) (2 * h-of s)) 12 (v7 .1));
+      layout = layout-of s (parts .0);
+      values =
+          record {
+            range = ranges .0;
+            factor-range = ranges .1;
+            inlet-most = leb-true (4 * e .inlet) dc (central .0);
+            outlet-most = leb-true (4 * e .outlet) dc (central .1);
+            bottom-shape = bottom-shape dc (bottom-of s) (m 3);
+          };
+      strakes-range = λ i j. let p = strakes-met-at (strakes-of s) (m 4) i (omega arith) in record { least = p .0; most = p .1 };
+      depths-most = λ i j. rising-most (V-of s) 0 (depths-of s) (m 5) i (omega arith);
+      depths-rise = λ i j. rising-next (V-of s) 0 (depths-of s) (m 5) i (omega arith);
+      slender = ltb-true (h-of s) (10 * dc) (m 6);
+      tall = leb-true (3 * dc) (2 * h-of s) (m 7);
     }
 
 -- accepted: not refused
 pub not-refused : (s : List ℕ) → Accepted s → refusal-of s ≡ 0
-unfolding refusal-of values-rule strakes-rule depths-rule shape-rule
+unfolding refusal-of sheet-rules first-unmet value-rules
 not-refused s a =
     let c = section-of s in
-    let p = product-sent s in
+    let v = a .values in
     let e = eccentricities-of s in
-    let b = bottom-of s in
     let n = strakes-length s in
-    let m = depths-length s in
-    simp (
-      of-layout s (a .layout),
-      sides-hold c p e b (a .values),
-      product-holds c p e b (a .values),
-      eccentricities-hold c p e b (a .values),
-      rule-of-bottom (d-c c) b (a .values .bottom-shape),
-      at-strakes-within (strakes-of s) (λ i j. (a .strakes-least i (omega arith), a .strakes-most i (omega arith))),
+    let d = depths-length s in
+    skipped (value-rules s) (layout-rules s) (layout-numbered s) (of-layout s (a .layout))
+    ∙ simp (
+      of-sides c (product-sent s) (v .range),
+      of-product c (product-sent s) (v .range) (v .factor-range),
+      le-leb (4 * e .inlet) (d-c c) (v .inlet-most),
+      le-leb (4 * e .outlet) (d-c c) (v .outlet-most),
+      of-bottom (d-c c) (bottom-of s) (v .bottom-shape),
+      at-strakes-met (strakes-of s) (λ i j. let w = a .strakes-range i (omega arith) in (w .least, w .most)),
       next-rising (V-of s) 0 (depths-of s) (λ j. omega arith) (λ i j. a .depths-most i (omega arith)) (λ i j. a .depths-rise i (omega arith)),
       lt-ltb (h-of s) (10 * d-c c) (a .slender),
       le-leb (3 * d-c c) (2 * h-of s) (a .tall),
     )
+
+pub sheet-numbered : (s : List ℕ) → numbered (sheet-rules s) ≡ true
+unfolding sheet-rules layout-rules records-rules record-rules value-rules
+sheet-numbered s = refl
+
+-- 14 is no rule of the sheet: the length call never answers it
+pub never-14 : (s : List ℕ) → refusal-of s ≡ 14 → ⊥
+unfolding refusal-of sheet-rules layout-rules records-rules record-rules value-rules
+never-14 s e = false≢true (among (sheet-rules s) 14 (omega arith) e)

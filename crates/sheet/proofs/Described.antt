@@ -4,16 +4,16 @@ use Prim.Native.Nat.{ℕ, zero, suc, _+_, _-_, _*_, _≤_, _<_}
 use mathlib.Core.List.{List, [], _∷_}
 use mathlib.Core.Logic.{_⊎_, ⊎-elim}
 use mathlib.Core.Path.{_≡_, refl, ap, ap₂, sym, _∙_}
-use native.Mathlib.Nat.{le-min, min-le-left}
 use native.Mathlib.Numerals.{add-one}
 use native.Mathlib.Omega.{arith}
 use borrow.Author.Tests.{eq-eqb, ne-eqb}
 use lib.ListN.{length, getD, take, replicate, List·getD-append}
 use lib.Seq.{take-length}
-use Rattle.janssen.specs.Section.{side-a, side-b, d-c}
-use Rattle.description.specs.Silo.{section-of, product-sent, product-read, product-of, factor-read, strakes-of, strake-count, sum, V-of, h-of, edge-of}
+use Rattle.janssen.specs.Section.{d-c}
+use Rattle.janssen.specs.program.Range.{Within, InRange}
+use Rattle.description.specs.Silo.{section-of, product-sent, product-of, factor-read, strakes-of, strake-count, sum, V-of, h-of, edge-of}
 use Rattle.description.specs.program.Wall.{wall-of, wall-top, wall-lowered, wall-after}
-use Rattle.sheet.specs.Accepted.{Accepted, ProductRange}
+use Rattle.sheet.specs.Accepted.{Accepted}
 use Rattle.description.proofs.Walls.{strakes-length}
 use Rattle.description.proofs.Sums.{sum-next, sum-take}
 
@@ -27,15 +27,15 @@ sum-most m (x ∷ l) h =
     omega arith
 
 -- C0 as it is read
-factor-range : (c : ℕ) → (c ≡ 0) ⊎ ((100 ≤ c) × (c ≤ 200)) → (100 ≤ factor-read c) × (factor-read c ≤ 200)
+factor-range : (c : ℕ) → (c ≡ 0) ⊎ Within 100 200 c → Within 100 200 (factor-read c)
 unfolding factor-read
 factor-range c x =
-    ⊎-elim (λ e. simp (eq-eqb c 0 e) (omega arith, omega arith))
-    (λ p. let n : c ≡ 0 → ⊥ = λ z. omega arith in simp (ne-eqb c 0 n) p)
+    ⊎-elim (λ e. simp (eq-eqb c 0 e) (record { least = omega arith; most = omega arith }))
+    (λ w. let n : c ≡ 0 → ⊥ = λ z. omega arith in simp (ne-eqb c 0 n) w)
     x
 
 module _ (s : List ℕ) where
-  -- the edges: 0 at the brim, V at the foot, each below the one before by its strake
+  -- the edges: 0 at the brim, V at the foot, each below the one before by its strake. C-12 and C-22 ask for these.
   pub edge-top : edge-of s 0 ≡ 0
   unfolding edge-of sum
   edge-top = refl
@@ -59,7 +59,7 @@ module _ (s : List ℕ) where
       let n = strakes-length s in
       List·getD-append (strakes-of s) (replicate (24 - strake-count s) 0) 0 k (omega arith)
 
-  -- going down: after k strakes the next is strake k and the edge is its upper edge
+  -- going down: after k strakes the next is strake k and the edge is its upper edge. C-12 asks for this.
   pub wall-state : (k : ℕ) → k ≤ strake-count s → wall-after (wall-of s) k ≡ record { next = k; edge = edge-of s k }
   unfolding wall-after wall-top wall-lowered
   wall-state zero h = ap (λ e. record { next = 0; edge = e }) (sym edge-top)
@@ -74,7 +74,7 @@ module _ (s : List ℕ) where
     pub edge-rises : (k : ℕ) → k < strake-count s → edge-of s k < edge-of s (suc k)
     edge-rises k h =
         let e = edge-next k h in
-        let l = a .strakes-least k h in
+        let l = a .strakes-range k h in
         omega arith
 
     -- V is at most 72,000 mm
@@ -83,18 +83,7 @@ module _ (s : List ℕ) where
     V-most =
         let n = strakes-length s in
         let f = a .layout .strakes-few in
-        let m = sum-most 3000 (strakes-of s) (λ i j. a .strakes-most i (omega arith)) in
-        omega arith
-
-    pub d-c-least : 500 ≤ d-c (section-of s)
-    unfolding d-c
-    d-c-least = le-min (a .values .a-least) (a .values .b-least)
-
-    pub d-c-most : d-c (section-of s) ≤ 50000
-    unfolding d-c
-    d-c-most =
-        let l = min-le-left (side-a (section-of s)) (side-b (section-of s)) in
-        let m = a .values .a-most in
+        let m = sum-most 3000 (strakes-of s) (λ i j. a .strakes-range i (omega arith) .most) in
         omega arith
 
     -- the wall is less than ten widths high
@@ -102,27 +91,13 @@ module _ (s : List ℕ) where
     unfolding h-of
     V-slender = let h = a .slender in omega arith
 
-    pub product-range : ProductRange (product-of s)
-    unfolding product-of product-read
-    product-range =
-        let v = a .values in
-        let f = factor-range (product-sent s .factor) (v .factor-range) in
-        record {
-          weight-least = v .weight-least;
-          weight-most = v .weight-most;
-          ratio-least = v .ratio-least;
-          ratio-most = v .ratio-most;
-          friction-least = v .friction-least;
-          friction-most = v .friction-most;
-          factor-least = f .0;
-          factor-most = f .1;
-        }
+    -- section and product as they are read
+    pub in-range : InRange (section-of s) (product-of s)
+    unfolding product-of
+    in-range =
+        let r = a .values .range in
+        record { a-in = r .a-in; b-in = r .b-in; γ-in = r .γ-in; Ks-in = r .Ks-in; μ-in = r .μ-in }
 
-    -- the next edge, as the state's method asks
-    pub lowered-fits : (k : ℕ) → k < strake-count s → edge-of s k + getD (wall-of s .heights) k 0 < 4294967296
-    lowered-fits k h =
-        let e = edge-next k h in
-        let g = wall-height-at k h in
-        let m = edge-most (suc k) in
-        let v = V-most in
-        omega arith
+    pub factor-in : Within 100 200 (product-of s .factor)
+    unfolding product-of
+    factor-in = factor-range (product-sent s .factor) (a .values .factor-range)

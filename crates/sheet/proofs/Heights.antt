@@ -1,66 +1,61 @@
 -- The rules on strakes and depths: at the first number of a list, and at each.
 use Prim.Native.Nat.{ℕ, zero, suc, _+_, _≤_, _<_}
-use mathlib.Core.Bool.{true, false}
+use mathlib.Core.Bool.{Bool, true, false, _&&_}
 use mathlib.Core.List.{List, [], _∷_}
 use mathlib.Core.Path.{_≡_, refl}
 use native.Mathlib.Omega.{arith}
 use lib.ListN.{length, getD}
 use Rattle.records.specs.Rules.{within}
 use Rattle.records.proofs.Tests.{absurd, both-true, within-true, true-within}
-use Rattle.sheet.specs.Refusal.{strakes-within, strakes-rule, rising, depths-rule}
+use Rattle.sheet.specs.Refusal.{strakes-met, depths-met}
 
-pub strakes-step : (x : ℕ) (l : List ℕ) → within 200 3000 x ≡ true → strakes-rule (x ∷ l) ≡ strakes-rule l
-unfolding strakes-rule strakes-within
-strakes-step x l h = simp h
+-- going through the list with what was met so far
+pub strakes-next : (m : Bool) (x : ℕ) (l : List ℕ) → (m && strakes-met (x ∷ l)) ≡ (m && within 200 3000 x && strakes-met l)
+unfolding strakes-met
+strakes-next true x l = refl
+strakes-next false x l = refl
 
-pub strakes-stop : (x : ℕ) (l : List ℕ) → within 200 3000 x ≡ false → strakes-rule (x ∷ l) ≡ 10
-unfolding strakes-rule strakes-within
-strakes-stop x l h = simp h
-
-pub depths-step : (top low z : ℕ) (l : List ℕ) → within low top z ≡ true → depths-rule top low (z ∷ l) ≡ depths-rule top (z + 1) l
-unfolding depths-rule rising
-depths-step top low z l h = simp h
-
-pub depths-stop : (top low z : ℕ) (l : List ℕ) → within low top z ≡ false → depths-rule top low (z ∷ l) ≡ 11
-unfolding depths-rule rising
-depths-stop top low z l h = simp h
+pub depths-next : (m : Bool) (top low z : ℕ) (l : List ℕ) → (m && depths-met top low (z ∷ l)) ≡ (m && within low top z && depths-met top (z + 1) l)
+unfolding depths-met
+depths-next true top low z l = refl
+depths-next false top low z l = refl
 
 -- every strake of a list inside its limits
-pub strakes-within-at : (l : List ℕ) → strakes-within l ≡ true → (i : ℕ) → i < length l → (200 ≤ getD l i 0) × (getD l i 0 ≤ 3000)
-unfolding strakes-within
-strakes-within-at [] h i m = absurd (omega arith)
-strakes-within-at (x ∷ l) h zero m = within-true 200 3000 x (both-true (within 200 3000 x) (strakes-within l) h .0)
-strakes-within-at (x ∷ l) h (suc i) m = strakes-within-at l (both-true (within 200 3000 x) (strakes-within l) h .1) i (omega arith)
+pub strakes-met-at : (l : List ℕ) → strakes-met l ≡ true → (i : ℕ) → i < length l → (200 ≤ getD l i 0) × (getD l i 0 ≤ 3000)
+unfolding strakes-met
+strakes-met-at [] h i m = absurd (omega arith)
+strakes-met-at (x ∷ l) h zero m = within-true 200 3000 x (both-true (within 200 3000 x) (strakes-met l) h .0)
+strakes-met-at (x ∷ l) h (suc i) m = strakes-met-at l (both-true (within 200 3000 x) (strakes-met l) h .1) i (omega arith)
 
-pub at-strakes-within : (l : List ℕ) → ((i : ℕ) → i < length l → (200 ≤ getD l i 0) × (getD l i 0 ≤ 3000)) → strakes-within l ≡ true
-unfolding strakes-within
-at-strakes-within [] h = refl
-at-strakes-within (x ∷ l) h =
+pub at-strakes-met : (l : List ℕ) → ((i : ℕ) → i < length l → (200 ≤ getD l i 0) × (getD l i 0 ≤ 3000)) → strakes-met l ≡ true
+unfolding strakes-met
+at-strakes-met [] h = refl
+at-strakes-met (x ∷ l) h =
     let p = h 0 (omega arith) in
-    simp (true-within 200 3000 x (p .0) (p .1), at-strakes-within l (λ i m. h (suc i) (omega arith)))
+    simp (true-within 200 3000 x (p .0) (p .1), at-strakes-met l (λ i m. h (suc i) (omega arith)))
 
 -- depths that rise: the first is at least low, none is over top, each is less than the next
-pub rising-first : (top low : ℕ) (l : List ℕ) → rising top low l ≡ true → 0 < length l → low ≤ getD l 0 0
-unfolding rising
+pub rising-first : (top low : ℕ) (l : List ℕ) → depths-met top low l ≡ true → 0 < length l → low ≤ getD l 0 0
+unfolding depths-met
 rising-first top low [] h m = absurd (omega arith)
-rising-first top low (z ∷ l) h m = within-true low top z (both-true (within low top z) (rising top (z + 1) l) h .0) .0
+rising-first top low (z ∷ l) h m = within-true low top z (both-true (within low top z) (depths-met top (z + 1) l) h .0) .0
 
-pub rising-most : (top low : ℕ) (l : List ℕ) → rising top low l ≡ true → (i : ℕ) → i < length l → getD l i 0 ≤ top
-unfolding rising
+pub rising-most : (top low : ℕ) (l : List ℕ) → depths-met top low l ≡ true → (i : ℕ) → i < length l → getD l i 0 ≤ top
+unfolding depths-met
 rising-most top low [] h i m = absurd (omega arith)
-rising-most top low (z ∷ l) h zero m = within-true low top z (both-true (within low top z) (rising top (z + 1) l) h .0) .1
-rising-most top low (z ∷ l) h (suc i) m = rising-most top (z + 1) l (both-true (within low top z) (rising top (z + 1) l) h .1) i (omega arith)
+rising-most top low (z ∷ l) h zero m = within-true low top z (both-true (within low top z) (depths-met top (z + 1) l) h .0) .1
+rising-most top low (z ∷ l) h (suc i) m = rising-most top (z + 1) l (both-true (within low top z) (depths-met top (z + 1) l) h .1) i (omega arith)
 
-pub rising-next : (top low : ℕ) (l : List ℕ) → rising top low l ≡ true → (i : ℕ) → suc i < length l → getD l i 0 < getD l (suc i) 0
-unfolding rising
+pub rising-next : (top low : ℕ) (l : List ℕ) → depths-met top low l ≡ true → (i : ℕ) → suc i < length l → getD l i 0 < getD l (suc i) 0
+unfolding depths-met
 rising-next top low [] h i m = absurd (omega arith)
 rising-next top low (z ∷ l) h zero m =
-    let f = rising-first top (z + 1) l (both-true (within low top z) (rising top (z + 1) l) h .1) (omega arith) in
+    let f = rising-first top (z + 1) l (both-true (within low top z) (depths-met top (z + 1) l) h .1) (omega arith) in
     omega arith
-rising-next top low (z ∷ l) h (suc i) m = rising-next top (z + 1) l (both-true (within low top z) (rising top (z + 1) l) h .1) i (omega arith)
+rising-next top low (z ∷ l) h (suc i) m = rising-next top (z + 1) l (both-true (within low top z) (depths-met top (z + 1) l) h .1) i (omega arith)
 
-pub next-rising : (top low : ℕ) (l : List ℕ) → (0 < length l → low ≤ getD l 0 0) → ((i : ℕ) → i < length l → getD l i 0 ≤ top) → ((i : ℕ) → suc i < length l → getD l i 0 < getD l (suc i) 0) → rising top low l ≡ true
-unfolding rising
+pub next-rising : (top low : ℕ) (l : List ℕ) → (0 < length l → low ≤ getD l 0 0) → ((i : ℕ) → i < length l → getD l i 0 ≤ top) → ((i : ℕ) → suc i < length l → getD l i 0 < getD l (suc i) 0) → depths-met top low l ≡ true
+unfolding depths-met
 next-rising top low [] f t n = refl
 next-rising top low (z ∷ l) f t n =
     simp (

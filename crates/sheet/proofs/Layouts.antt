@@ -2,19 +2,21 @@
 -- taken by itself, and its kind tells which lengths it may have.
 use Prim.Native.Nat.{ℕ, zero, suc, _+_, _%_, _≤_, _<_}
 use mathlib.Core.Bool.{true}
-use mathlib.Core.List.{List}
+use mathlib.Core.List.{List, [], _∷_}
 use mathlib.Core.Logic.{_⊎_, inl, inr, ⊎-elim}
-use mathlib.Core.Path.{_≡_, refl, ap, sym, _∙_}
+use mathlib.Core.Path.{_≡_, refl, ap, sym, _∙_, subst}
+use native.Mathlib.Decide.{decLe}
 use native.Mathlib.Omega.{arith}
 use borrow.Author.Tests.{leb-true, eqb-true, le-leb, eq-eqb}
 use lib.Dec.{leb, eqb}
 use lib.ListN.{length}
-use Rattle.records.specs.Rules.{within, must}
-use Rattle.records.specs.Format.{u16, place, kind, payload-length, due, step-of, most-of, allowed, record-rule, records-rule, layout-rule}
+use Rattle.records.specs.Rules.{within, _unless_, first-unmet}
+use Rattle.records.specs.Format.{u16, place, kind, payload-length, due, step-of, most-of, allowed, record-rules, records-rules, layout-rules}
 use Rattle.description.specs.Silo.{strake-count, depth-count}
 use Rattle.sheet.specs.Accepted.{Layout}
-use Rattle.records.proofs.Tests.{both-true, within-true, true-within, must-true, orElse-0, absurd}
-use Rattle.records.proofs.Records.{due-cases}
+use Rattle.records.proofs.Tests.{both-true, within-true, true-within, absurd}
+use Rattle.records.proofs.Chain.{numbered, met-at, met, apart, skipped}
+use Rattle.records.proofs.Records.{due-cases, record-numbered}
 
 allowed-range : (t n : ℕ) → allowed t n ≡ true → (step-of t ≤ n) × (n ≤ most-of t) × (n % step-of t ≡ 0)
 unfolding allowed
@@ -33,62 +35,46 @@ record Fine (s : List ℕ) (k : ℕ) : Type 0 where
   pub due-length : allowed (kind s k) (payload-length s k) ≡ true
   pub inside : place s k + 4 + payload-length s k ≤ length s
 
-fine : (s : List ℕ) (k : ℕ) → record-rule s (place s k) k ≡ 0 → Fine s k
-unfolding record-rule kind payload-length
+fine : (s : List ℕ) (k : ℕ) → first-unmet (record-rules s (place s k) k) ≡ 0 → Fine s k
+unfolding record-rules kind payload-length
 fine s k h =
     let a = place s k in
-    let p = orElse-0 (must (leb (a + 4) (length s)) 2) _ h in
-    let q = orElse-0 (must (due k (u16 s (a + 2))) 3) _ (p .1) in
-    let r = orElse-0 (must (allowed (u16 s (a + 2)) (u16 s a)) 4) _ (q .1) in
-    let t = orElse-0 (must (leb (a + 4 + u16 s a) (length s)) 2) 0 (r .1) in
-    record {
-      due-kind = must-true (due k (u16 s (a + 2))) 2 (q .0);
-      due-length = must-true (allowed (u16 s (a + 2)) (u16 s a)) 3 (r .0);
-      inside = leb-true (a + 4 + u16 s a) (length s) (must-true (leb (a + 4 + u16 s a) (length s)) 1 (t .0));
-    }
+    let m : (i : ℕ) → met-at (record-rules s a k) i ≡ true = met (record-rules s a k) refl h in
+    record { due-kind = m 1; due-length = m 2; inside = leb-true (a + 4 + u16 s a) (length s) (m 3) }
 
-unrefused : (s : List ℕ) (k : ℕ) → Fine s k → record-rule s (place s k) k ≡ 0
-unfolding record-rule kind payload-length
+unrefused : (s : List ℕ) (k : ℕ) → Fine s k → first-unmet (record-rules s (place s k) k) ≡ 0
+unfolding first-unmet record-rules kind payload-length
 unrefused s k f =
     let a = place s k in
     let i = f .inside in
     let h : a + 4 ≤ length s = omega arith in
     simp (le-leb (a + 4) (length s) h, f .due-kind, f .due-length, le-leb (a + 4 + u16 s a) (length s) i)
 
-six : (P : ℕ → Type 0) → P 0 → P 1 → P 2 → P 3 → P 4 → P 5 → (k : ℕ) → k < 6 → P k
-six P a b c d e f zero l = a
-six P a b c d e f (suc zero) l = b
-six P a b c d e f (suc (suc zero)) l = c
-six P a b c d e f (suc (suc (suc zero))) l = d
-six P a b c d e f (suc (suc (suc (suc zero)))) l = e
-six P a b c d e f (suc (suc (suc (suc (suc zero))))) l = f
-six P a b c d e f (suc (suc (suc (suc (suc (suc k)))))) l = absurd (omega arith)
+or-later : (s : List ℕ) (k j : ℕ) → Dec (suc k ≤ j) → k ≤ j → Fine s k → (suc k ≤ j → Fine s j) → Fine s j
+or-later s k j (yes l) h f g = g l
+or-later s k j (no l) h f g = let e : k ≡ j = omega arith in subst (Fine s) e f
 
-records-fine : (s : List ℕ) → records-rule s 6 0 ≡ 0 → ((k : ℕ) → k < 6 → Fine s k) × (place s 6 ≡ length s)
-unfolding records-rule
-records-fine s h =
-    let p0 = orElse-0 (record-rule s (place s 0) 0) (records-rule s 5 1) h in
-    let p1 = orElse-0 (record-rule s (place s 1) 1) (records-rule s 4 2) (p0 .1) in
-    let p2 = orElse-0 (record-rule s (place s 2) 2) (records-rule s 3 3) (p1 .1) in
-    let p3 = orElse-0 (record-rule s (place s 3) 3) (records-rule s 2 4) (p2 .1) in
-    let p4 = orElse-0 (record-rule s (place s 4) 4) (records-rule s 1 5) (p3 .1) in
-    let p5 = orElse-0 (record-rule s (place s 5) 5) (records-rule s 0 6) (p4 .1) in (
-      six (Fine s) (fine s 0 (p0 .0)) (fine s 1 (p1 .0)) (fine s 2 (p2 .0)) (fine s 3 (p3 .0)) (fine s 4 (p4 .0)) (fine s 5 (p5 .0)),
-      eqb-true (place s 6) (length s) (must-true (eqb (place s 6) (length s)) 4 (p5 .1)),
-    )
+-- the n records from k on, and nothing behind them
+records-fine : (s : List ℕ) (n k : ℕ) → first-unmet (records-rules s n k) ≡ 0 → ((j : ℕ) → k ≤ j → j < k + n → Fine s j) × (place s (k + n) ≡ length s)
+unfolding records-rules
+records-fine s zero k h =
+    let e : k + 0 ≡ k = omega arith in
+    (λ j l m. absurd (omega arith), rw e (eqb-true (place s k) (length s) (met (5 unless eqb (place s k) (length s) ∷ []) refl h 0)))
+records-fine s (suc n) k h =
+    let p = apart (records-rules s n (suc k)) (record-rules s (place s k) k) (record-numbered s k) h in
+    let rest = records-fine s n (suc k) (p .1) in
+    let e : k + suc n ≡ suc k + n = omega arith in
+    (λ j l m. or-later s k j (decLe (suc k) j) l (fine s k (p .0)) (λ g. rest .0 j g (omega arith)), rw e (rest .1))
 
-fine-records : (s : List ℕ) → ((k : ℕ) → k < 6 → Fine s k) → place s 6 ≡ length s → records-rule s 6 0 ≡ 0
-unfolding records-rule
-fine-records s f e =
-    simp (
-      unrefused s 0 (f 0 (omega arith)),
-      unrefused s 1 (f 1 (omega arith)),
-      unrefused s 2 (f 2 (omega arith)),
-      unrefused s 3 (f 3 (omega arith)),
-      unrefused s 4 (f 4 (omega arith)),
-      unrefused s 5 (f 5 (omega arith)),
-      eq-eqb (place s 6) (length s) e,
-    )
+fine-records : (s : List ℕ) (n k : ℕ) → ((j : ℕ) → k ≤ j → j < k + n → Fine s j) → place s (k + n) ≡ length s → first-unmet (records-rules s n k) ≡ 0
+unfolding records-rules first-unmet
+fine-records s zero k f e =
+    let i : k + 0 ≡ k = omega arith in
+    simp (eq-eqb (place s k) (length s) (rw i at e))
+fine-records s (suc n) k f e =
+    let i : k + suc n ≡ suc k + n = omega arith in
+    skipped (records-rules s n (suc k)) (record-rules s (place s k) k) (record-numbered s k) (unrefused s k (f k (omega arith) (omega arith)))
+    ∙ fine-records s n (suc k) (λ j l m. f j (omega arith) (omega arith)) (rw i at e)
 
 -- the kinds in order, and the bounds that a record's kind sets for its length
 later-kind : (s : List ℕ) (k : ℕ) → 0 < k → Fine s k → kind s k ≡ k + 2
@@ -100,12 +86,17 @@ first-kind s f = ⊎-elim (λ e. inr e) (λ p. inl (p .1)) (due-cases 0 (kind s 
 bounds : (s : List ℕ) (k t : ℕ) → Fine s k → kind s k ≡ t → (step-of t ≤ payload-length s k) × (payload-length s k ≤ most-of t) × (payload-length s k % step-of t ≡ 0)
 bounds s k t f e = allowed-range t (payload-length s k) (ap (λ u. allowed u (payload-length s k)) (sym e) ∙ f .due-length)
 
-pub layout-of : (s : List ℕ) → layout-rule s ≡ 0 → Layout s
-unfolding layout-rule strake-count depth-count
+pub layout-numbered : (s : List ℕ) → numbered (layout-rules s) ≡ true
+unfolding layout-rules records-rules record-rules
+layout-numbered s = refl
+
+pub layout-of : (s : List ℕ) → first-unmet (layout-rules s) ≡ 0 → Layout s
+unfolding layout-rules strake-count depth-count
 layout-of s h =
-    let p = orElse-0 (must (leb (length s) 1024) 1) (records-rule s 6 0) h in
-    let r = records-fine s (p .1) in
-    let f : (k : ℕ) → k < 6 → Fine s k = r .0 in
+    let size = 1 unless leb (length s) 1024 ∷ [] in
+    let p = apart (records-rules s 6 0) size refl h in
+    let r = records-fine s 6 0 (p .1) in
+    let f : (k : ℕ) → k < 6 → Fine s k = λ k l. r .0 k (omega arith) l in
     let f0 = f 0 (omega arith) in
     let f1 = f 1 (omega arith) in
     let f2 = f 2 (omega arith) in
@@ -118,7 +109,7 @@ layout-of s h =
     let b4 = bounds s 4 6 f4 (later-kind s 4 (omega arith) f4) in
     let b5 = bounds s 5 7 f5 (later-kind s 5 (omega arith) f5) in
     record {
-      size = leb-true (length s) 1024 (must-true (leb (length s) 1024) 0 (p .0));
+      size = leb-true (length s) 1024 (met size refl (p .0) 0);
       present = λ k l. f k l .inside;
       section-kind = first-kind s f0;
       other-kinds = λ k l m. later-kind s k l (f k m);
@@ -137,7 +128,6 @@ layout-of s h =
     }
 
 due-later : (k : ℕ) → due k (k + 2) ≡ true
-unfolding due
 due-later k = simp (eq-eqb (k + 2) (k + 2) refl)
 
 fine-later : (s : List ℕ) (k t : ℕ) → kind s k ≡ k + 2 → k + 2 ≡ t → step-of t ≤ payload-length s k → payload-length s k ≤ most-of t → payload-length s k % step-of t ≡ 0 → place s k + 4 + payload-length s k ≤ length s → Fine s k
@@ -149,7 +139,6 @@ fine-later s k t e d l h m i =
     }
 
 fine-circle : (s : List ℕ) → Layout s → kind s 0 ≡ 1 → Fine s 0
-unfolding due
 fine-circle s a e =
     let n = a .circle-length e in
     record {
@@ -164,8 +153,17 @@ fine-first s a =
     (λ e. let n = a .rectangle-length e in fine-later s 0 2 e refl (omega arith) (omega arith) (omega arith) (a .present 0 (omega arith)))
     (a .section-kind)
 
-pub of-layout : (s : List ℕ) → Layout s → layout-rule s ≡ 0
-unfolding layout-rule strake-count depth-count
+six : (P : ℕ → Type 0) → P 0 → P 1 → P 2 → P 3 → P 4 → P 5 → (k : ℕ) → k < 6 → P k
+six P a b c d e f zero l = a
+six P a b c d e f (suc zero) l = b
+six P a b c d e f (suc (suc zero)) l = c
+six P a b c d e f (suc (suc (suc zero))) l = d
+six P a b c d e f (suc (suc (suc (suc zero)))) l = e
+six P a b c d e f (suc (suc (suc (suc (suc zero))))) l = f
+six P a b c d e f (suc (suc (suc (suc (suc (suc k)))))) l = absurd (omega arith)
+
+pub of-layout : (s : List ℕ) → Layout s → first-unmet (layout-rules s) ≡ 0
+unfolding first-unmet layout-rules strake-count depth-count
 of-layout s a =
     let k : (k : ℕ) → 0 < k → k < 6 → kind s k ≡ k + 2 = a .other-kinds in
     let i : (k : ℕ) → k < 6 → place s k + 4 + payload-length s k ≤ length s = a .present in
@@ -181,4 +179,4 @@ of-layout s a =
     (fine-later s 3 5 (k 3 (omega arith) (omega arith)) refl (omega arith) (omega arith) (omega arith) (i 3 (omega arith)))
     (fine-later s 4 6 (k 4 (omega arith) (omega arith)) refl (omega arith) (omega arith) (omega arith) (i 4 (omega arith)))
     (fine-later s 5 7 (k 5 (omega arith) (omega arith)) refl (omega arith) (omega arith) (omega arith) (i 5 (omega arith))) in
-    simp (le-leb (length s) 1024 (a .size)) (fine-records s f (a .ends))
+    simp (le-leb (length s) 1024 (a .size)) (fine-records s 6 0 (λ k _ l. f k l) (a .ends))

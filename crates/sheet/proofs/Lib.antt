@@ -1,4 +1,3 @@
-pub mod Numbers
 pub mod Heights
 pub mod Layouts
 pub mod Acceptance

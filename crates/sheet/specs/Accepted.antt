@@ -6,7 +6,8 @@ use mathlib.Core.Path.{_≡_}
 use lib.ListN.{length, getD}
 use Rattle.janssen.specs.declared.Section.{Section}
 use Rattle.janssen.specs.declared.Product.{Product}
-use Rattle.janssen.specs.Section.{side-a, side-b, d-c}
+use Rattle.janssen.specs.Section.{d-c}
+use Rattle.janssen.specs.program.Range.{Within, InRange}
 use Rattle.description.specs.declared.Eccentricities.{Eccentricities}
 use Rattle.description.specs.declared.Bottom.{Bottom}
 use Rattle.records.specs.Format.{kind, payload-length, place}
@@ -45,19 +46,9 @@ pub record Hopper (dc : ℕ) (b : Bottom) : Type 0 where
 
 -- the values inside their ranges
 pub record Values (c : Section) (p : Product) (e : Eccentricities) (b : Bottom) : Type 0 where
-  -- 6
-  pub a-least : 500 ≤ side-a c
-  pub a-most : side-a c ≤ 50000
-  pub b-least : 500 ≤ side-b c
-  pub b-most : side-b c ≤ 50000
-  -- 7
-  pub weight-least : 1000 ≤ p .weight
-  pub weight-most : p .weight ≤ 30000
-  pub ratio-least : 20 ≤ p .ratio
-  pub ratio-most : p .ratio ≤ 100
-  pub friction-least : 10 ≤ p .friction
-  pub friction-most : p .friction ≤ 100
-  pub factor-range : (p .factor ≡ 0) ⊎ ((100 ≤ p .factor) × (p .factor ≤ 200))
+  -- 6, and 7 but for C0
+  pub range : InRange c p
+  pub factor-range : (p .factor ≡ 0) ⊎ Within 100 200 (p .factor)
   -- 8
   pub inlet-most : 4 * e .inlet ≤ d-c c
   pub outlet-most : 4 * e .outlet ≤ d-c c
@@ -70,8 +61,7 @@ pub record Accepted (s : List ℕ) : Type 0 where
   -- 6 to 9
   pub values : Values (section-of s) (product-sent s) (eccentricities-of s) (bottom-of s)
   -- 10
-  pub strakes-least : (i : ℕ) → i < strake-count s → 200 ≤ getD (strakes-of s) i 0
-  pub strakes-most : (i : ℕ) → i < strake-count s → getD (strakes-of s) i 0 ≤ 3000
+  pub strakes-range : (i : ℕ) → i < strake-count s → Within 200 3000 (getD (strakes-of s) i 0)
   -- 11
   pub depths-most : (i : ℕ) → i < depth-count s → getD (depths-of s) i 0 ≤ V-of s
   pub depths-rise : (i : ℕ) → suc i < depth-count s → getD (depths-of s) i 0 < getD (depths-of s) (suc i) 0
@@ -79,14 +69,3 @@ pub record Accepted (s : List ℕ) : Type 0 where
   pub slender : h-of s < 10 * d-c (section-of s)
   -- 13
   pub tall : 3 * d-c (section-of s) ≤ 2 * h-of s
-
--- the product as it is read: C0 from 100 to 200
-pub record ProductRange (p : Product) : Type 0 where
-  pub weight-least : 1000 ≤ p .weight
-  pub weight-most : p .weight ≤ 30000
-  pub ratio-least : 20 ≤ p .ratio
-  pub ratio-most : p .ratio ≤ 100
-  pub friction-least : 10 ≤ p .friction
-  pub friction-most : p .friction ≤ 100
-  pub factor-least : 100 ≤ p .factor
-  pub factor-most : p .factor ≤ 200

@@ -1,9 +1,10 @@
-// Rules 6 to 13, each 0 or its number; dc is d_c, mm.
+// Rules 6 to 13, each a test; dc is d_c, mm.
 ghost use mathlib.Core.Path.{_≡_};
-ghost use Prim.Native.Nat.{_<_};
-ghost use Rattle.records.specs.Rules.{within, orElse};
+ghost use Prim.Native.Nat.{_*_, _<_};
+ghost use lib.Dec.{leb, ltb};
+ghost use Rattle.records.specs.Rules.{within, first-unmet};
 ghost use Rattle.description.specs.Silo.{strakes-of, depths-of};
-ghost use Rattle.sheet.specs.Refusal.{sides-rule, product-rule, eccentricities-rule, flat, hopper, bottom-rule, strakes-rule, depths-rule, shape-rule, values-rule};
+ghost use Rattle.sheet.specs.Refusal.{sides-met, product-met, eccentricities-met, flat, hopper, strakes-met, depths-met, value-rules};
 use description::Bottom;
 use description::Eccentricities;
 use description::values::depth_count;
@@ -17,190 +18,133 @@ use description::values::wall_height;
 use janssen::Product;
 use janssen::Section;
 use janssen::shorter_side;
+use janssen::side_a;
+use janssen::side_b;
 use records::bytes::four_bytes;
 use records::bytes::two_bytes;
+use records::rules::unless;
 
 // low ≤ x ≤ high
 fn between(low: u64, high: u64, x: u64) -> bool
     ensures { λ r. ⌜ r ≡ within low high x ⌝ }
 {
-    if x < low {
-        return false;
-    }
-    x <= high
-}
-
-// The first refusal of two.
-fn first(a: u32, b: u32) -> u32
-    ensures { λ r. ⌜ r ≡ orElse a b ⌝ }
-{
-    if a == 0 { b } else { a }
+    (low <= x) & (x <= high)
 }
 
 // Rule 6.
-fn sides_refusal(section: Section) -> u32
-    ensures { λ r. ⌜ r ≡ sides-rule section ⌝ }
+fn sides_met(section: Section) -> bool
+    ensures { λ r. ⌜ r ≡ sides-met section ⌝ }
 {
-    match section {
-        Section::Circle(d) => if between(500, 50000, d) { 0 } else { 6 },
-        Section::Rectangle(a, b) => {
-            if !between(500, 50000, a) {
-                return 6;
-            }
-            if between(500, 50000, b) { 0 } else { 6 }
-        }
-    }
+    between(500, 50000, side_a(section)) & between(500, 50000, side_b(section))
 }
 
 // Rule 7.
-fn product_refusal(product: Product) -> u32
-    ensures { λ r. ⌜ r ≡ product-rule product ⌝ }
+fn product_met(product: Product) -> bool
+    ensures { λ r. ⌜ r ≡ product-met product ⌝ }
 {
-    if !between(1000, 30000, product.weight) {
-        return 7;
-    }
-    if !between(20, 100, product.ratio) {
-        return 7;
-    }
-    if !between(10, 100, product.friction) {
-        return 7;
-    }
-    if product.factor == 0 {
-        return 0;
-    }
-    if between(100, 200, product.factor) {
-        0
-    } else {
-        7
-    }
+    between(1000, 30000, product.weight)
+        & between(20, 100, product.ratio)
+        & between(10, 100, product.friction)
+        & ((product.factor == 0) | between(100, 200, product.factor))
 }
 
 // Rule 8.
-fn eccentricities_refusal(dc: u64, e: Eccentricities) -> u32
+fn eccentricities_met(dc: u64, e: Eccentricities) -> bool
     requires { ⌜ (e .inlet < 4294967296) × (e .outlet < 4294967296) ⌝ }
-    ensures { λ r. ⌜ r ≡ eccentricities-rule dc e ⌝ }
+    ensures { λ r. ⌜ r ≡ eccentricities-met dc e ⌝ }
 {
-    if dc < 4 * e.inlet {
-        return 8;
-    }
-    if dc < 4 * e.outlet {
-        return 8;
-    }
-    0
+    (4 * e.inlet <= dc) & (4 * e.outlet <= dc)
 }
 
+// Rule 9: flat, or a hopper.
 fn is_flat(bottom: Bottom) -> bool
     ensures { λ r. ⌜ r ≡ flat bottom ⌝ }
 {
-    if bottom.height == 0 {
-        return bottom.run == 0;
-    }
-    false
+    (bottom.height == 0) & (bottom.run == 0)
 }
 
 fn is_hopper(dc: u64, bottom: Bottom) -> bool
     requires { ⌜ (bottom .height < 4294967296) × (bottom .run < 4294967296) ⌝ }
     ensures { λ r. ⌜ r ≡ hopper dc bottom ⌝ }
 {
-    if bottom.run < 1 {
-        return false;
-    }
-    if dc <= 2 * bottom.run {
-        return false;
-    }
-    if 25000 < bottom.height {
-        return false;
-    }
-    363971 * bottom.run <= 1000000 * bottom.height
-}
-
-// Rule 9.
-fn bottom_refusal(dc: u64, bottom: Bottom) -> u32
-    requires { ⌜ (bottom .height < 4294967296) × (bottom .run < 4294967296) ⌝ }
-    ensures { λ r. ⌜ r ≡ bottom-rule dc bottom ⌝ }
-{
-    if is_flat(bottom) {
-        return 0;
-    }
-    if is_hopper(dc, bottom) { 0 } else { 9 }
+    (1 <= bottom.run)
+        & (2 * bottom.run < dc)
+        & (bottom.height <= 25000)
+        & (363971 * bottom.run <= 1000000 * bottom.height)
 }
 
 // Rule 10.
-fn strakes_refusal(sheet: &[u8]) -> u32
-    ensures { λ r. ⌜ r ≡ strakes-rule (strakes-of (now (sheet .entry))) ⌝ }
+fn strakes_met(sheet: &[u8]) -> bool
+    ensures { λ r. ⌜ r ≡ strakes-met (strakes-of (now (sheet .entry))) ⌝ }
 {
     let count = strakes(sheet);
     let mut at = payload_place(sheet, 4);
+    let mut met = true;
     let mut i: usize = 0;
     while i < count {
-        if !between(200, 3000, two_bytes(sheet, at)) {
-            return 10;
-        }
+        met = met & between(200, 3000, two_bytes(sheet, at));
         at += 2;
         i += 1;
     }
-    0
+    met
 }
 
 // Rule 11: each depth is from low to the wall's height, low being one more than the depth before.
-fn depths_refusal(sheet: &[u8], height: u64) -> u32
-    ensures { λ r. ⌜ r ≡ depths-rule height 0 (depths-of (now (sheet .entry))) ⌝ }
+fn depths_met(sheet: &[u8], height: u64) -> bool
+    ensures { λ r. ⌜ r ≡ depths-met height 0 (depths-of (now (sheet .entry))) ⌝ }
 {
     let count = depth_count(sheet);
     let mut at = payload_place(sheet, 5);
     let mut low: u64 = 0;
+    let mut met = true;
     let mut i: usize = 0;
     while i < count {
         let z = four_bytes(sheet, at);
-        if !between(low, height, z) {
-            return 11;
-        }
+        met = met & between(low, height, z);
         low = z + 1;
         at += 4;
         i += 1;
     }
-    0
+    met
 }
 
-// Rules 12 and 13, h the height of the silo.
-fn shape_refusal(dc: u64, h: u64) -> u32
-    requires { ⌜ (dc < 4294967296) × (h < 8589934592) ⌝ }
-    ensures { λ r. ⌜ r ≡ shape-rule dc h ⌝ }
+// Rule 12.
+fn height_met(dc: u64, h: u64) -> bool
+    requires { ⌜ dc < 4294967296 ⌝ }
+    ensures { λ r. ⌜ r ≡ ltb h (10 * dc) ⌝ }
 {
-    if 10 * dc <= h {
-        return 12;
-    }
-    if 2 * h < 3 * dc {
-        return 13;
-    }
-    0
+    h < 10 * dc
 }
 
-// Rules 6 to 13, in order.
+// Rule 13.
+fn slender_met(dc: u64, h: u64) -> bool
+    requires { ⌜ (dc < 4294967296) × (h < 8589934592) ⌝ }
+    ensures { λ r. ⌜ r ≡ leb (3 * dc) (2 * h) ⌝ }
+{
+    3 * dc <= 2 * h
+}
+
+// The first refusal of rules 6 to 13, or 0; h is the height of the silo, mm.
 pub fn values_refusal(sheet: &[u8]) -> u32
-    ensures { λ r. ⌜ r ≡ values-rule (now (sheet .entry)) ⌝ }
+    ensures { λ r. ⌜ r ≡ first-unmet (value-rules (now (sheet .entry))) ⌝ }
 {
     let section = read_section(sheet);
-    let d = shorter_side(section);
+    let dc = shorter_side(section);
     let bottom = read_bottom(sheet);
     let height = wall_height(sheet);
-    first(
-        sides_refusal(section),
-        first(
-            product_refusal(read_product_sent(sheet)),
-            first(
-                eccentricities_refusal(d, read_eccentricities(sheet)),
-                first(
-                    bottom_refusal(d, bottom),
-                    first(
-                        strakes_refusal(sheet),
-                        first(
-                            depths_refusal(sheet, height),
-                            shape_refusal(d, height + bottom.height),
-                        ),
-                    ),
-                ),
-            ),
-        ),
-    )
+    let h = height + bottom.height;
+    let below_ten = height_met(dc, h);
+    let slender = slender_met(dc, h);
+    let refused = unless(0, 6, sides_met(section));
+    let refused = unless(refused, 7, product_met(read_product_sent(sheet)));
+    let refused = unless(
+        refused,
+        8,
+        eccentricities_met(dc, read_eccentricities(sheet)),
+    );
+    let refused = unless(refused, 9, is_flat(bottom) | is_hopper(dc, bottom));
+    let refused = unless(refused, 10, strakes_met(sheet));
+    let refused = unless(refused, 11, depths_met(sheet, height));
+    let refused = unless(refused, 12, below_ten);
+    unless(refused, 13, slender)
 }

@@ -1,8 +1,9 @@
 // What a host sees: the exported calls over the crates below. `include/silo.h` declares them for C.
 ghost use mathlib.Core.Path.{_≡_};
 ghost use lib.ListN.{length};
+ghost use Rattle.records.specs.Rules.{first-unmet};
 ghost use Rattle.answers.specs.Length.{answers-length, answers-length-number};
-ghost use Rattle.catalogue.specs.Table.{catalogue-refusal, catalogue-after};
+ghost use Rattle.catalogue.specs.Table.{catalogue-rules, catalogue-after};
 ghost use Rattle.governing.specs.Strakes.{governs, governs-number};
 ghost use Rattle.janssen.specs.program.Pressure.{computed};
 ghost use Rattle.answers.specs.Promise.{Promise};
@@ -26,7 +27,7 @@ pub extern "C" fn silo_answers_length(sheet: &[u8]) -> u64
 // 0 with the product record of a catalogue row and wall written, or 15 or 16 with the buffer as it was.
 #[no_mangle]
 pub extern "C" fn silo_catalogue(row: u32, wall: u32, record: &mut [u8]) -> u32
-    ensures answer { λ r. ⌜ r ≡ catalogue-refusal row wall (length (now («record» .entry))) ⌝ }
+    ensures answer { λ r. ⌜ r ≡ first-unmet (catalogue-rules row wall (length (now («record» .entry)))) ⌝ }
     ensures buffer { λ r. ⌜ now («record» .exit) ≡ catalogue-after row wall (now («record» .entry)) ⌝ }
 {
     catalogue::catalogue(row, wall, record)

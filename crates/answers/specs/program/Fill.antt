@@ -1,34 +1,41 @@
 -- The answer list as the program fills it, part by part.
-use Prim.Native.Nat.{ℕ, _+_}
+use Prim.Native.Nat.{ℕ, zero, suc}
 use mathlib.Core.List.{List, [], _∷_, _++_}
+use lib.ListN.{length, take}
 use Rattle.janssen.specs.program.Pressure.{computed}
-use Rattle.description.specs.Silo.{strakes-of, depths-of}
+use Rattle.description.specs.Silo.{strakes-of, depth-count, sum}
+use Rattle.loads.specs.declared.Silo.{Silo}
 use Rattle.loads.specs.declared.Basis.{Basis}
-use Rattle.loads.specs.Load.{Silo, number, bottom-numbers}
+use Rattle.loads.specs.Load.{number, bottom-numbers}
 use Rattle.loads.specs.Load.Load.{p-he}
-use Rattle.loads.specs.program.Basis.{basis-for}
-use Rattle.loads.specs.program.Rows.{depth-row}
-use Rattle.answers.specs.Answers.{silo-of}
+use Rattle.loads.specs.program.Basis.{basis-for, depth-numbers}
+use Rattle.answers.specs.Answers.{silo-of, depth}
 
--- for each depth its eight numbers
-unfoldable pub depth-rows : Silo → List ℕ → List ℕ
-depth-rows c [] = []
-depth-rows c (depth ∷ l) = depth-row c depth ++ depth-rows c l
+-- F of each index from k on, n of them, one after the other
+unfoldable pub each : (ℕ → List ℕ) → ℕ → ℕ → List ℕ
+each F k zero = []
+each F k (suc n) = F k ++ each F (suc k) n
 
--- for each strake below the depth `from` its number, at its lower edge
-unfoldable pub strake-numbers : Silo → ℕ → List ℕ → List ℕ
-strake-numbers c from [] = []
-strake-numbers c from (height ∷ l) = number computed c p-he (from + height) ∷ strake-numbers c (from + height) l
+-- the number of the strake k of a wall of these heights, at its lower edge
+abbrev pub at-strake : Silo → List ℕ → ℕ → List ℕ
+at-strake c heights k = number computed c p-he (sum (take (suc k) heights)) ∷ []
+
+abbrev pub strake-numbers : Silo → List ℕ → List ℕ
+strake-numbers c heights = each (at-strake c heights) 0 (length heights)
+
+-- the numbers of the depth i of a sheet
+abbrev pub at-depth : List ℕ → ℕ → List ℕ
+at-depth s i = depth-numbers (silo-of s) (depth s i)
 
 -- the parts of a sheet's answer list
 abbrev pub depths-part : List ℕ → List ℕ
-depths-part s = depth-rows (silo-of s) (depths-of s)
+depths-part s = each (at-depth s) 0 (depth-count s)
 
 abbrev pub bottom-part : List ℕ → List ℕ
 bottom-part s = bottom-numbers computed (silo-of s)
 
 abbrev pub strakes-part : List ℕ → List ℕ
-strakes-part s = strake-numbers (silo-of s) 0 (strakes-of s)
+strakes-part s = strake-numbers (silo-of s) (strakes-of s)
 
 -- the answer list: depths, bottom, strakes
 unfoldable pub answers : List ℕ → List ℕ

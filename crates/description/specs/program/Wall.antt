@@ -4,14 +4,14 @@ use mathlib.Core.List.{List, _++_}
 use lib.ListN.{getD, replicate}
 use Rattle.description.specs.declared.Wall.{Wall}
 use Rattle.description.specs.declared.WallState.{WallState}
-use Rattle.description.specs.declared.Silo.{Silo}
+use Rattle.description.specs.declared.Described.{Described}
 use Rattle.description.specs.Silo.{section-of, product-of, eccentricities-of, bottom-of, strake-count, strakes-of}
 
 -- 24 places for the heights, and how many of them are strakes
 unfoldable pub wall-of : List ℕ → Wall
 wall-of s = record { heights = strakes-of s ++ replicate (24 - strake-count s) 0; count = strake-count s }
 
-unfoldable pub silo-read : List ℕ → Silo
+unfoldable pub silo-read : List ℕ → Described
 silo-read s =
     record {
       section = section-of s;

@@ -31,9 +31,7 @@ quotient-up-requires : tie.Need-quotient-up-requires
 quotient-up-requires c κs = search needs
 
 -- the quotient is the definition's
-answer :
-    (c : tie.After-quotient-up) →
-    c .quotient-up .result ≡ patch-load (c .before .before .args .e) (c .before .before .args .d) (c .before .before .args .horizontal .0)
+answer : (c : tie.After-quotient-up) → let a = c .before .before .args in c .quotient-up .result ≡ patch-load (a .e) (a .d) (a .horizontal .0)
 answer c =
     let a = c .before .before .args in
     c .quotient-up .ensures ∙ patch-load-divided (a .e) (a .d) (a .horizontal .0) (omega arith)

@@ -19,12 +19,6 @@ entry-of : (l : List ℕ) (k : ℕ) → l ≡ table → getD l k 0 ≡ entry k
 unfolding entry
 entry-of l k e = ap (λ (l : List ℕ). getD l k 0) e
 
--- the quotient, as the definition has it
-quotient-of : (l : List ℕ) (q d r : ℕ) → l ≡ table → d ≡ denominator (q % 2 ^ 27)
-    → r ≡ getD l (q / 2 ^ 27) 0 * (2 ^ 35 - q % 2 ^ 27) / d
-    → r ≡ entry (q / 2 ^ 27) * (2 ^ 35 - q % 2 ^ 27) / denominator (q % 2 ^ 27)
-quotient-of l q d r e f g = g ∙ ap₂ (λ (t d : ℕ). t * (2 ^ 35 - q % 2 ^ 27) / d) (entry-of l (q / 2 ^ 27) e) f
-
 is-next : (l : List ℕ) (q r : ℕ) → l ≡ table → r ≡ entry (q / 2 ^ 27) * (2 ^ 35 - q % 2 ^ 27) / denominator (q % 2 ^ 27)
     → r < getD l (q / 2 ^ 27 + 1) 0 → getD l (q / 2 ^ 27 + 1) 0 ≡ lower q
 unfolding lower between
@@ -75,16 +69,22 @@ product-quotient-requires c κs =
       omega arith,
     )
 
+-- the quotient, as the definition has it
+quotient-is : (c : tie.After-product-quotient) → let q = c .before .before .before .before .args .q in
+    c .product-quotient .result ≡ entry (q / 2 ^ 27) * (2 ^ 35 - q % 2 ^ 27) / denominator (q % 2 ^ 27)
+quotient-is c =
+    let s = c .before .before .before .before in
+    let q = s .args .q in
+    c .product-quotient .ensures ∙
+    ap₂ (λ (t d : ℕ). t * (2 ^ 35 - q % 2 ^ 27) / d) (entry-of (s .args .entries .now) (q / 2 ^ 27) (s .pre .0)) (c .before .step-denominator .ensures .0)
+
 returns : tie.Need-returns
 returns c =
     let s = c .before .before .before .before .before in
     let l = s .args .entries .now in
     let q = s .args .q in
     bounded q (getD l (q / 2 ^ 27 + 1) 0) (s .pre .1)
-    (is-next l q (c .before .product-quotient .result) (s .pre .0)
-    (quotient-of l q (c .before .before .step-denominator .result) (c .before .product-quotient .result) (s .pre .0)
-    (c .before .before .step-denominator .ensures .0) (c .before .product-quotient .ensures))
-    (c .if1 .taken))
+    (is-next l q (c .before .product-quotient .result) (s .pre .0) (quotient-is (c .before)) (c .if1 .taken))
 
 returns-2 : tie.Need-returns-2
 returns-2 c =
@@ -92,10 +92,7 @@ returns-2 c =
     let l = s .args .entries .now in
     let q = s .args .q in
     bounded q (c .before .product-quotient .result) (s .pre .1)
-    (is-quotient l q (c .before .product-quotient .result) (s .pre .0)
-    (quotient-of l q (c .before .before .step-denominator .result) (c .before .product-quotient .result) (s .pre .0)
-    (c .before .before .step-denominator .ensures .0) (c .before .product-quotient .ensures))
-    (c .if1 .left))
+    (is-quotient l q (c .before .product-quotient .result) (s .pre .0) (quotient-is (c .before)) (c .if1 .left))
 
 pub lower-bound-spec : {M : Type 1} → statement M
 lower-bound-spec =

@@ -1,12 +1,6 @@
--- The table of 2^40·e^(-k/64) for k = 0 to 3,392, and the rule that each entry meets. Document 01, "Filling".
-use Prim.Native.Nat.{ℕ, _+_}
+-- The table of 2^40·e^(-k/64) for k = 0 to 3,392, as the program holds it.
+use Prim.Native.Nat.{ℕ}
 use mathlib.Core.List.{List, [], _∷_}
-use Rattle.fraction.specs.Fraction.{_⊘_}
-use Rattle.exponential.specs.Series.{Below, Above}
-
--- the entry t at k is never above 2^40·e^(-k/64), and less than 256 below it
-abbrev pub Enclosed : ℕ → ℕ → Type 0
-Enclosed k t = Below t (k ⊘ 64) × Above (t + 256) (k ⊘ 64)
 
 -- entries 0 to 3,392
 unfoldable pub table : List ℕ

@@ -20,13 +20,13 @@ of-requires c κs = search needs
 loop-holds : tie.Need-loop-holds Inv-loop μ-loop
 loop-holds c = (omega arith, omega (arith, c .of .ensures .0), c .of .ensures .1)
 
-append-requires : tie.Need-append-requires Inv-loop μ-loop
-append-requires c κs =
+times-requires : tie.Need-times-requires Inv-loop μ-loop
+times-requires c κs =
     let a = c .before .before .before .args in
     let p = c .before .before .before .pre in
     let l = c .before .loop in (
       l .inv .2,
-      p .1,
+      omega (arith, p .1),
       omega (arith, room (a .n) (a .d) (l .q .whole) (l .q .rest) (l .i) (a .count) (p .0) (omega arith) (l .inv .1) (p .2)),
     )
 
@@ -41,8 +41,8 @@ loop-again c =
     let a = c .before .before .before .before .args in
     let l = c .before .before .loop in (
       omega arith,
-      rw (add-one, pow-suc) (omega (arith, c .append .ensures .0, l .inv .1)),
-      c .append .ensures .1,
+      rw (add-one, pow-suc) (omega (arith, c .times .ensures .0, l .inv .1)),
+      c .times .ensures .1,
     )
 
 returns : tie.Need-returns Inv-loop μ-loop
@@ -60,7 +60,7 @@ digits-spec =
     μ-loop
     of-requires
     loop-holds
-    append-requires
+    times-requires
     add-i
     loop-less
     loop-again

@@ -10,18 +10,14 @@ use Rattle.hopper.proofs.base_of_sides.Tie as tie
 mul-squared-up : tie.Need-mul-squared-up
 mul-squared-up c = search needs
 
+sides : (c : tie.Start) → 69 * c .args .a * c .args .b ≤ 3450000 * 50000
+sides c = let a-side : 69 * c .args .a ≤ 3450000 = omega arith in mul-le-mul a-side (c .pre .2)
+
 mul-squared-up-2 : tie.Need-mul-squared-up-2
-mul-squared-up-2 c =
-    let a-side : 69 * c .args .a ≤ 3450000 = omega arith in
-    let b-side : c .args .b ≤ 50000 = omega arith in
-    omega (arith, mul-le-mul a-side b-side)
+mul-squared-up-2 c = omega (arith, sides c)
 
 mul-squared-up-3 : tie.Need-mul-squared-up-3
-mul-squared-up-3 c =
-    let a-side : 69 * c .args .a ≤ 3450000 = omega arith in
-    let b-side : c .args .b ≤ 50000 = omega arith in
-    let stored : c .args .stored ≤ 3000000 = omega arith in
-    omega (arith, mul-le-mul (mul-le-mul a-side b-side) stored)
+mul-squared-up-3 c = omega (arith, mul-le-mul (sides c) (c .pre .3))
 
 add-squared-up : tie.Need-add-squared-up
 add-squared-up c = search needs
@@ -31,10 +27,8 @@ mul-squared-up-4 c = search needs
 
 squared-up-requires : tie.Need-squared-up-requires
 squared-up-requires c κs =
-    let b-side : c .args .b ≤ 50000 = omega arith in
-    let sides : c .args .a * c .args .b ≤ (c .args .a + c .args .b) * 50000 = omega (arith, mul-le-mul-left (c .args .a) b-side) in
-    let stored : c .args .stored ≤ 3000000 = omega arith in
-    (omega arith, omega arith, omega (arith, mul-le-mul sides stored), omega arith)
+    let area : c .args .a * c .args .b ≤ (c .args .a + c .args .b) * 50000 = omega (arith, mul-le-mul-left (c .args .a) (c .pre .2)) in
+    (omega arith, omega arith, omega (arith, mul-le-mul area (c .pre .3)), omega arith)
 
 square-requires : tie.Need-square-requires
 square-requires c κs = search needs
@@ -51,22 +45,10 @@ quotient-up-requires c κs =
 
 returns : tie.Need-returns
 returns c =
-    let a = c .before .before .before .before .args in
-    nested
-    (c .quotient-up .result)
-    (c .before .before .before .squared-up .result)
-    (c .before .before .square .result)
-    (c .before .square2 .result)
-    (69 * a .a * a .b * a .stored)
-    (4000000 * (a .a + a .b))
-    (a .height)
-    (a .run)
-    (c .quotient-up .ensures)
-    (c .before .before .before .squared-up .ensures)
-    (c .before .before .square .ensures .0)
-    (c .before .square2 .ensures .0)
-    (omega arith)
-    (omega arith)
+    let once = c .before .before .before in
+    let a = once .before .args in
+    nested _ _ _ _ (69 * a .a * a .b * a .stored) (4000000 * (a .a + a .b)) (a .height) (a .run) (c .quotient-up .ensures)
+    (once .squared-up .ensures) (c .before .before .square .ensures .0) (c .before .square2 .ensures .0) (omega arith) (omega arith)
 
 pub base-of-sides-spec : {M : Type 1} → statement M
 base-of-sides-spec =

@@ -39,20 +39,10 @@ base-of-sides-requires c κs =
 
 returns : tie.Need-returns
 returns c =
-    let start = c .before .before .before .before in
-    base-answer
-    (start .args .section)
-    (start .args .product)
-    (start .args .height)
-    (start .args .run)
-    (c .before .before .before .side-a .result)
-    (c .before .before .side-b .result)
-    (c .base-of-sides .result)
-    (start .pre .0)
-    (start .pre .2)
-    (sym (c .before .before .before .side-a .ensures))
-    (sym (c .before .before .side-b .ensures))
-    (c .base-of-sides .ensures)
+    let first = c .before .before .before in
+    let start = first .before in
+    base-answer (start .args .section) (start .args .product) (start .args .height) (start .args .run) _ _ _ (start .pre .0) (start .pre .2)
+    (sym (first .side-a .ensures)) (sym (c .before .before .side-b .ensures)) (c .base-of-sides .ensures)
 
 pub hopper-base-spec : {M : Type 1} → statement M
 hopper-base-spec =

@@ -21,25 +21,24 @@ mul-parts c = search needs
 mul-parts-2 : tie.Need-mul-parts-2
 mul-parts-2 c = search needs
 
+-- 5·k is at most 20
+slope-part : (c : tie.After-square2) → 5 * c .before .before .args .k * c .before .square .result ≤ 20 * 625000000
+slope-part c = let quarters : 5 * c .before .before .args .k ≤ 20 = omega arith in mul-le-mul quarters (c .before .square .ensures .1)
+
 mul-parts-3 : tie.Need-mul-parts-3
-mul-parts-3 c =
-    let quarters : 5 * c .before .before .args .k ≤ 20 = omega arith in
-    omega (arith, mul-le-mul quarters (c .before .square .ensures .1))
+mul-parts-3 c = omega (arith, slope-part c)
 
 add-parts : tie.Need-add-parts
-add-parts c =
-    let quarters : 5 * c .before .before .args .k ≤ 20 = omega arith in
-    omega (arith, mul-le-mul quarters (c .before .square .ensures .1))
+add-parts c = omega (arith, slope-part c)
 
 cast-quotient-up : tie.Need-cast-quotient-up
 cast-quotient-up c = search needs
 
 mul-quotient-up : tie.Need-mul-quotient-up
 mul-quotient-up c =
-    let quarters : 5 * c .before .before .before .args .k ≤ 20 = omega arith in
-    let parts : 24 * c .before .square2 .result + 5 * c .before .before .before .args .k * c .before .before .square .result ≤ 27500000000 =
-    omega (arith, mul-le-mul quarters (c .before .before .square .ensures .1)) in
-    let load : c .before .before .before .args .vertical .0 ≤ 2 ^ 25 = omega arith in
+    let a = c .before .before .before .args in
+    let parts : 24 * c .before .square2 .result + 5 * a .k * c .before .before .square .result ≤ 27500000000 = omega (arith, slope-part (c .before)) in
+    let load : a .vertical .0 ≤ 2 ^ 25 = omega arith in
     omega (arith, mul-le-mul load parts)
 
 add-quotient-up : tie.Need-add-quotient-up
@@ -53,43 +52,19 @@ quotient-up-requires c κs =
     let run = c .before .before .before .pre .1 in omega (arith, mul-pos run run)
 
 -- the sum, and its range
-answer :
-    (c : tie.After-quotient-up) →
-    (c .before .before .before .before .args .filling + c .quotient-up .result ≡
-    P-n
-    (c .before .before .before .before .args .height)
-    (c .before .before .before .before .args .run)
-    (c .before .before .before .before .args .k)
-    (c .before .before .before .before .args .filling)
-    (c .before .before .before .before .args .vertical .0)) ×
-    (c .before .before .before .before .args .filling + c .quotient-up .result ≤ 2 ^ 26)
+answer : (c : tie.After-quotient-up) → let a = c .before .before .before .before .args in let n = a .filling + c .quotient-up .result in
+    (n ≡ P-n (a .height) (a .run) (a .k) (a .filling) (a .vertical .0)) × (n ≤ 2 ^ 26)
 answer c =
-    let a = c .before .before .before .before .args in
-    let same : a .filling + c .quotient-up .result ≡ P-n (a .height) (a .run) (a .k) (a .filling) (a .vertical .0) =
+    let b = c .before .before .before in
+    let a = b .before .args in
+    let rise = b .square in
+    let across = c .before .before .square2 in
+    let same =
     ap (λ (x : ℕ). a .filling + x) (c .quotient-up .ensures) ∙
-    P-n-divided
-    (a .height)
-    (a .run)
-    (a .k)
-    (a .filling)
-    (a .vertical .0)
-    (c .before .before .before .square .result)
-    (c .before .before .square2 .result)
-    (c .before .before .before .square .ensures .0)
-    (c .before .before .square2 .ensures .0)
+    P-n-divided (a .height) (a .run) (a .k) (a .filling) (a .vertical .0) (rise .result) (across .result) (rise .ensures .0) (across .ensures .0)
     (omega arith) in
-    let range =
-    P-n-range
-    (a .height)
-    (a .run)
-    (a .k)
-    (a .filling)
-    (a .vertical .0)
-    (omega arith)
-    (omega arith)
-    (omega arith)
-    (omega arith) in
-    (same, omega (arith, range))
+    let range = P-n-range (a .height) (a .run) (a .k) (a .filling) (a .vertical .0) (omega arith) (omega arith) (omega arith) (omega arith) in
+    (same, omega arith)
 
 add-t10 : tie.Need-add-t10
 add-t10 c = omega (arith, answer c .1)

@@ -1,83 +1,59 @@
--- A rest after the second product takes the quotient up by one.
-use Prim.Native.Nat.{ℕ, _+_, _*_, _≤_, _<_}
-use mathlib.Core.Path.{_≡_, sym, ap}
+-- A rest after the second product takes the quotient up by one. The number is at most 2,587,500·d, and each factor at most 25,000.
+use Prim.Native.Nat.{ℕ, _+_, _*_, _^_, _≤_, _<_}
+use mathlib.Core.Path.{_≡_, refl, sym, ap, _∙_}
 use native.Mathlib.Omega.{arith}
+use native.Mathlib.Nat.{mul-le-mul}
 use borrow.Author.Needs.{needs}
-use Rattle.fraction.proofs.Division.{up-exact, up-next}
-use Rattle.hopper.proofs.Mixed.{whole-most, factor-most, once-of}
+use Rattle.fraction.proofs.Division.{up-exact, up-next, whole-bound}
 use Rattle.hopper.proofs.squared_up.Statement.{statement}
 use Rattle.hopper.proofs.squared_up.Tie as tie
+
+-- whole·d + rest at most m·d, m to 2^36, leaves room for the factor
+room : (d factor whole rest m : ℕ) → rest < d → d ≤ 400000000000 → factor ≤ 25000 → m ≤ 2 ^ 36 → whole * d + rest ≤ d * m
+    → (rest < d) × (d * factor < 2 ^ 64) × (whole * factor + factor < 2 ^ 64)
+room d factor whole rest m small hd hf hm most =
+    let w : whole ≤ 2 ^ 36 = omega (arith, whole-bound d whole rest _ m (omega arith) refl most) in
+    (small, omega (arith, mul-le-mul hd hf), omega (arith, mul-le-mul w hf))
 
 of-requires : tie.Need-of-requires
 of-requires c κs = search needs
 
--- the whole parts
-first-most : (c : tie.After-of) → c .of .result .whole ≤ 2587500
-first-most c =
-    let a = c .before .args in
-    whole-most (c .of .result .whole) (c .of .result .rest) (a .d) (a .n) 2587500 (c .of .ensures .1) (c .of .ensures .0) (omega arith)
-
 times-requires : tie.Need-times-requires
-times-requires c κs = (c .of .ensures .1, omega arith, omega (arith, first-most c), omega arith)
+times-requires c κs =
+    let a = c .before .args in
+    let q = c .of .result in
+    room (a .d) _ (q .whole) (q .rest) 2587500 (c .of .ensures .1) (omega arith) (omega arith) (omega arith) (omega (arith, c .of .ensures .0))
 
-once :
-    (c : tie.After-times) →
-    c .times .result .whole * c .before .before .args .d + c .times .result .rest ≡
-    c .before .before .args .n * c .before .before .args .factor
+once : (c : tie.After-times) → let a = c .before .before .args in
+    (c .times .result .whole * a .d + c .times .result .rest ≡ a .n * a .factor) × (a .n * a .factor ≤ a .d * (2587500 * 25000))
 once c =
-    once-of
-    (c .before .before .args .n)
-    (c .before .before .args .d)
-    (c .before .before .args .factor)
-    (c .before .of .result .whole)
-    (c .before .of .result .rest)
-    (c .times .result .whole)
-    (c .times .result .rest)
-    (c .before .of .ensures .0)
-    (c .times .ensures .0)
+    let a = c .before .before .args in
+    let most : a .n ≤ 2587500 * a .d = omega arith in
+    let factor : a .factor ≤ 25000 = omega arith in
+    (c .times .ensures .0 ∙ ap (λ (x : ℕ). x * a .factor) (c .before .of .ensures .0), omega (arith, mul-le-mul most factor))
 
 times-requires-2 : tie.Need-times-requires-2
 times-requires-2 c κs =
     let a = c .before .before .args in
-    let most : c .times .result .whole ≤ 2587500 * 25000 =
-    whole-most
-    (c .times .result .whole)
-    (c .times .result .rest)
-    (a .d)
-    (a .n * a .factor)
-    (2587500 * 25000)
-    (c .times .ensures .1)
-    (once c)
-    (factor-most (a .n) (a .d) 2587500 (a .factor) (omega arith) (omega arith)) in
-    (c .times .ensures .1, omega arith, omega arith, omega arith)
+    let q = c .times .result in
+    let o = once c in
+    room (a .d) _ (q .whole) (q .rest) (2587500 * 25000) (c .times .ensures .1) (omega arith) (omega arith) (omega arith) (omega arith)
 
-twice :
-    (c : tie.After-times2) →
-    c .times2 .result .whole * c .before .before .before .args .d + c .times2 .result .rest ≡
-    c .before .before .before .args .n * (c .before .before .before .args .factor * c .before .before .before .args .factor)
-twice c = omega (arith, c .times2 .ensures .0, ap (λ (x : ℕ). x * c .before .before .before .args .factor) (once (c .before)))
+twice : (c : tie.After-times2) → let a = c .before .before .before .args in
+    c .times2 .result .whole * a .d + c .times2 .result .rest ≡ a .n * (a .factor * a .factor)
+twice c = omega (arith, c .times2 .ensures .0, ap (λ (x : ℕ). x * c .before .before .before .args .factor) (once (c .before) .0))
 
 add-result : tie.Need-add-result
 add-result c =
     let b = c .before .before .before in
     let a = b .before .before .before .args in
-    let most : b .times2 .result .whole ≤ 2587500 * 25000 * 25000 =
-    whole-most
-    (b .times2 .result .whole)
-    (b .times2 .result .rest)
-    (a .d)
-    (a .n * a .factor * a .factor)
-    (2587500 * 25000 * 25000)
-    (b .times2 .ensures .1)
-    (omega (arith, twice b))
-    (factor-most
-    (a .n * a .factor)
-    (a .d)
-    (2587500 * 25000)
-    (a .factor)
-    (omega arith)
-    (factor-most (a .n) (a .d) 2587500 (a .factor) (omega arith) (omega arith))) in
-    omega arith
+    let o = once (b .before) in
+    let factor : a .factor ≤ 25000 = omega arith in
+    omega (
+      arith,
+      whole-bound (a .d) (b .times2 .result .whole) (b .times2 .result .rest) _ (2587500 * 25000 * 25000) (omega arith) (twice b)
+          (omega (arith, mul-le-mul (o .1) factor)),
+    )
 
 returns : tie.Need-returns
 returns c =

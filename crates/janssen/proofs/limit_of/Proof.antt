@@ -2,30 +2,30 @@
 -- Assumes nothing.
 use borrow.Author.Needs.{needs}
 use native.Mathlib.Omega.{arith}
-use Rattle.janssen.proofs.PreparedNumbers.{side-sizes, limit-sizes}
+use Rattle.janssen.proofs.PreparedNumbers.{limit-sizes}
 use Rattle.janssen.proofs.limit_of.Statement.{statement}
 use Rattle.janssen.proofs.limit_of.Tie as tie
 
 mul-digits-up : tie.Need-mul-digits-up
-mul-digits-up c = omega (arith, side-sizes (c .pre .4) (c .pre .5))
+mul-digits-up c = omega (arith, limit-sizes (c .pre))
 
 mul-digits-up-2 : tie.Need-mul-digits-up-2
-mul-digits-up-2 c = omega (arith, limit-sizes (c .args .times) (c .args .over) (c .args .by) (c .args .weight) (c .pre .0) (c .pre .1) (c .pre .2) (c .pre .3) (c .pre .4) (c .pre .5))
+mul-digits-up-2 c = omega (arith, limit-sizes (c .pre))
 
 mul-digits-up-3 : tie.Need-mul-digits-up-3
-mul-digits-up-3 c = omega (arith, limit-sizes (c .args .times) (c .args .over) (c .args .by) (c .args .weight) (c .pre .0) (c .pre .1) (c .pre .2) (c .pre .3) (c .pre .4) (c .pre .5))
+mul-digits-up-3 c = omega (arith, limit-sizes (c .pre))
 
 add-digits-up : tie.Need-add-digits-up
 add-digits-up c = search needs
 
 mul-digits-up-4 : tie.Need-mul-digits-up-4
-mul-digits-up-4 c = omega (arith, limit-sizes (c .args .times) (c .args .over) (c .args .by) (c .args .weight) (c .pre .0) (c .pre .1) (c .pre .2) (c .pre .3) (c .pre .4) (c .pre .5))
+mul-digits-up-4 c = omega (arith, limit-sizes (c .pre))
 
 mul-digits-up-5 : tie.Need-mul-digits-up-5
-mul-digits-up-5 c = omega (arith, limit-sizes (c .args .times) (c .args .over) (c .args .by) (c .args .weight) (c .pre .0) (c .pre .1) (c .pre .2) (c .pre .3) (c .pre .4) (c .pre .5))
+mul-digits-up-5 c = omega (arith, limit-sizes (c .pre))
 
 digits-up-requires : tie.Need-digits-up-requires
-digits-up-requires c κs = omega (arith, limit-sizes (c .args .times) (c .args .over) (c .args .by) (c .args .weight) (c .pre .0) (c .pre .1) (c .pre .2) (c .pre .3) (c .pre .4) (c .pre .5))
+digits-up-requires c κs = omega (arith, limit-sizes (c .pre))
 
 returns : tie.Need-returns
 returns c = search needs

@@ -15,12 +15,12 @@ side-b-requires c κs = search needs
 mul-both : tie.Need-mul-both
 mul-both c =
     let start = c .before .before .before in
-    omega (arith, both-within (start .args .section) (start .args .product) (start .pre))
+    omega (arith, both-within (start .pre))
 
 step-of-requires : tie.Need-step-of-requires
 step-of-requires c κs =
     let start = c .before .before .before in
-    omega (arith, both-within (start .args .section) (start .args .product) (start .pre))
+    omega (arith, both-within (start .pre))
 
 limit-of-requires : tie.Need-limit-of-requires
 limit-of-requires c κs = search needs
@@ -28,17 +28,17 @@ limit-of-requires c κs = search needs
 step-of-requires-2 : tie.Need-step-of-requires-2
 step-of-requires-2 c κs =
     let start = c .before .before .before .before .before in
-    omega (arith, both-within (start .args .section) (start .args .product) (start .pre))
+    omega (arith, both-within (start .pre))
 
 limit-of-requires-2 : tie.Need-limit-of-requires-2
 limit-of-requires-2 c κs =
     let start = c .before .before .before .before .before .before in
-    omega (arith, both-within (start .args .section) (start .args .product) (start .pre))
+    omega (arith, both-within (start .pre))
 
 step-of-requires-3 : tie.Need-step-of-requires-3
 step-of-requires-3 c κs =
     let start = c .before .before .before .before .before .before .before in
-    omega (arith, both-within (start .args .section) (start .args .product) (start .pre))
+    omega (arith, both-within (start .pre))
 
 limit-of-requires-3 : tie.Need-limit-of-requires-3
 limit-of-requires-3 c κs = search needs
@@ -46,7 +46,7 @@ limit-of-requires-3 c κs = search needs
 z0-of-requires : tie.Need-z0-of-requires
 z0-of-requires c κs =
     let start = c .before .before .before .before .before .before .before .before .before in
-    omega (arith, both-within (start .args .section) (start .args .product) (start .pre))
+    omega (arith, both-within (start .pre))
 
 returns : tie.Need-returns
 returns c =

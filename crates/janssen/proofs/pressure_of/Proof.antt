@@ -1,4 +1,4 @@
--- `pressure_of` meets its contract: the pressure is at most 2^25.
+-- `pressure_of` meets its contract: the pressure is below 2^25.
 -- Assumes nothing.
 use borrow.Author.Needs.{needs}
 use native.Mathlib.Omega.{arith}
@@ -19,7 +19,9 @@ cast-t5 c =
 
 returns : tie.Need-returns
 unfolding pressure
-returns c = c .product-shifted-up .ensures
+returns c =
+    let start = c .before in
+    (c .product-shifted-up .ensures, omega (arith, c .product-shifted-up .ensures, pressure-fits (start .args .limit) (start .args .decay) (start .pre .0)))
 
 pub pressure-of-spec : {M : Type 1} → statement M
 pressure-of-spec =

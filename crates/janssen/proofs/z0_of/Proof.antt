@@ -2,15 +2,15 @@
 -- Assumes nothing.
 use borrow.Author.Needs.{needs}
 use native.Mathlib.Omega.{arith}
-use Rattle.janssen.proofs.PreparedNumbers.{side-sizes, step-sizes, z0-least}
+use Rattle.janssen.proofs.PreparedNumbers.{z0-sizes}
 use Rattle.janssen.proofs.z0_of.Statement.{statement}
 use Rattle.janssen.proofs.z0_of.Tie as tie
 
 mul-digits-down : tie.Need-mul-digits-down
-mul-digits-down c = omega (arith, side-sizes (c .pre .1) (c .pre .2))
+mul-digits-down c = omega (arith, z0-sizes (c .pre))
 
 mul-digits-down-2 : tie.Need-mul-digits-down-2
-mul-digits-down-2 c = omega (arith, side-sizes (c .pre .1) (c .pre .2))
+mul-digits-down-2 c = omega (arith, z0-sizes (c .pre))
 
 mul-digits-down-3 : tie.Need-mul-digits-down-3
 mul-digits-down-3 c = search needs
@@ -19,11 +19,10 @@ add-digits-down : tie.Need-add-digits-down
 add-digits-down c = search needs
 
 mul-digits-down-4 : tie.Need-mul-digits-down-4
-mul-digits-down-4 c = omega (arith, step-sizes 529 (c .args .both) (omega arith) (c .pre .0 .most) (c .pre .1) (c .pre .2))
+mul-digits-down-4 c = omega (arith, z0-sizes (c .pre))
 
 digits-down-requires : tie.Need-digits-down-requires
-digits-down-requires c κs =
-    omega (arith, side-sizes (c .pre .1) (c .pre .2), z0-least (c .args .both) (c .pre .0) (c .pre .1) (c .pre .2), step-sizes 529 (c .args .both) (omega arith) (c .pre .0 .most) (c .pre .1) (c .pre .2))
+digits-down-requires c κs = omega (arith, z0-sizes (c .pre))
 
 returns : tie.Need-returns
 returns c = search needs

@@ -5,7 +5,7 @@ use Rattle.fraction.specs.Fraction.{_⊘_, whole, _⊗_, up}
 use Rattle.exponential.specs.program.Lower.{lower}
 use Rattle.janssen.specs.declared.Section.{Section}
 use Rattle.janssen.specs.declared.Product.{Product}
-use Rattle.janssen.specs.Filling.{Kind, Factors, factors, wall-load-factors, z0, q, P}
+use Rattle.janssen.specs.Filling.{Kind, Factors, factors, z0, q, P}
 use Rattle.janssen.specs.Filling.Kind.{wall-friction}
 use Rattle.janssen.specs.Numbers.{FillingNumbers}
 
@@ -31,11 +31,15 @@ filling k s p z = pressure (limit k s p) (decay (step (factors k) s p) z)
 
 -- z0 in 2^-11 mm, rounded down
 unfoldable pub z0-scaled : Section → Product → ℕ
-z0-scaled s p = (z0 wall-load-factors s p .top * (1000 * 2 ^ 11)) / z0 wall-load-factors s p .bottom
+z0-scaled s p = (z0 (factors wall-friction) s p .top * (1000 * 2 ^ 11)) / z0 (factors wall-friction) s p .bottom
 
--- z - z0·(1 - e^(-q)) in 2^-11 mm from above, with 2^40·e^(-q) at most 512 above `decay`
+-- 2^40·(1 - e^(-q)) from below: 2^40·e^(-q) is at most 512 above `decay`
+abbrev pub least-gone : ℕ → ℕ
+least-gone decay = 2 ^ 40 - decay - 512
+
+-- z - z0·(1 - e^(-q)) in 2^-11 mm from above
 unfoldable pub loaded-depth : ℕ → ℕ → ℕ → ℕ
-loaded-depth z0 decay z = z * 2 ^ 11 - z0 * (2 ^ 40 - decay - 512) / 2 ^ 40
+loaded-depth z0 decay z = z * 2 ^ 11 - z0 * least-gone decay / 2 ^ 40
 
 -- γR·(z - z0·(1 - e^(-q))) in N/m, rounded up
 unfoldable pub load : ℕ → ℕ → ℕ
@@ -43,7 +47,7 @@ load limit depth = up ((limit * depth) ⊘ (2 ^ 22 * 1000))
 
 -- P_w at the depth z mm, N/m
 unfoldable pub wall-load : Section → Product → ℕ → ℕ
-wall-load s p z = load (limit wall-friction s p) (loaded-depth (z0-scaled s p) (decay (step wall-load-factors s p) z) z)
+wall-load s p z = load (limit wall-friction s p) (loaded-depth (z0-scaled s p) (decay (step (factors wall-friction) s p) z) z)
 
 -- the free numbers, as the program computes them
 abbrev pub computed : FillingNumbers

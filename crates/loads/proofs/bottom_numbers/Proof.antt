@@ -1,10 +1,14 @@
--- The filling pressure is that of the wall's foot.
-use mathlib.Core.Path.{_∙_, ap}
+-- The filling pressure is that of the wall's foot; without a run the floor is due, with one the hopper.
+use borrow.Author.Needs.{needs}
+use mathlib.Core.Path.{_∙_, sym, ap}
+use mathlib.Core.List.{[], _∷_}
 use native.Mathlib.Omega.{arith}
-use Rattle.janssen.specs.declared.Prepared.{Prepared}
-use Rattle.janssen.specs.Filling.Kind.{vertical}
-use Rattle.loads.specs.Load.{load-depth, ten}
-use Rattle.loads.proofs.RowLaws.{filling-small}
+use Rattle.janssen.specs.program.Pressure.{computed, filling}
+use Rattle.janssen.specs.program.Prepare.{pressure-on}
+use Rattle.discharge.specs.Discharge.{magnified-load, C-b}
+use Rattle.loads.specs.declared.Basis.{Basis}
+use Rattle.loads.specs.Load.{load-depth}
+use Rattle.loads.proofs.LoadLaws.{prepared-reaches, bottom-flat, bottom-hopper}
 use Rattle.loads.proofs.bottom_numbers.Statement.{statement}
 use Rattle.loads.proofs.bottom_numbers.Tie as tie
 
@@ -13,28 +17,39 @@ unfolding load-depth
 filling-pressure-requires c κs =
     let start = c .before .before .before in
     let b = start .args .basis in
-    let sound = start .pre .1 in
-    (start .pre .0, (vertical, b .section, b .product, sound .fits .range, sound .fits .foot-reached, ap (λ (x : Prepared). x .vertical) (sound .prepared-right)))
+    (start .pre .0, prepared-reaches b (start .pre .1) (b .silo .foot) (start .pre .1 .fits .foot-reached) .vertical-reaches)
 
-ten-numbers-requires : tie.Need-ten-numbers-requires
-ten-numbers-requires c κs =
-    let start = c .before .before .before .before in
-    let b = start .args .basis in
-    let sound = start .pre .1 in
-    let same = c .filling-pressure .ensures vertical (b .section) (b .product) (ap (λ (x : Prepared). x .vertical) (sound .prepared-right)) in (
-      sound .fits .range,
-      sound .fits .height-most,
-      sound .fits .run-most,
-      omega (arith, same, filling-small vertical (b .section) (b .product) (b .foot) (sound .fits .range)),
-    )
+floor-requires : tie.Need-floor-requires
+floor-requires c κs = search needs
 
 returns : tie.Need-returns
-unfolding load-depth
+unfolding load-depth filling
 returns c =
-    let start = c .before .before .before .before .before in
+    let at = c .before .before .before in
+    let start = at .before .before .before .before in
     let b = start .args .basis in
-    let same = c .before .filling-pressure .ensures vertical (b .section) (b .product) (ap (λ (x : Prepared). x .vertical) (start .pre .1 .prepared-right)) in
-    c .ten-numbers .ensures ∙ ap (ten (b .section) (b .product) (b .height) (b .run)) same
+    let same = at .filling-pressure .ensures .0 ∙ ap (λ (x : Basis). pressure-on (x .prepared .vertical) (b .silo .foot)) (start .pre .1 .right) in
+    let floor = c .floor .ensures ∙ ap (magnified-load C-b) same in
+    (λ i. floor i ∷ 0 ∷ 0 ∷ 0 ∷ 0 ∷ 0 ∷ 0 ∷ 0 ∷ 0 ∷ 0 ∷ []) ∙ sym (bottom-flat computed (b .silo) (c .before .if1 .taken))
+
+hopper-numbers-requires : tie.Need-hopper-numbers-requires
+unfolding load-depth filling
+hopper-numbers-requires c κs =
+    let at = c .before .before in
+    let start = at .before .before .before .before in
+    let b = start .args .basis in (
+      start .pre .1 .fits,
+      omega (arith, c .if1 .left),
+      at .filling-pressure .ensures .0 ∙ ap (λ (x : Basis). pressure-on (x .prepared .vertical) (b .silo .foot)) (start .pre .1 .right),
+      at .filling-pressure .ensures .1,
+    )
+
+returns-2 : tie.Need-returns-2
+returns-2 c =
+    let b = c .before .before .before .before .before .before .before .args .basis in
+    c .hopper-numbers .ensures ∙ sym (bottom-hopper computed (b .silo) (omega (arith, c .before .if1 .left)))
 
 pub bottom-numbers-spec : {M : Type 1} → statement M
-bottom-numbers-spec = tie.close (tie.spec filling-pressure-requires ten-numbers-requires returns)
+bottom-numbers-spec =
+    tie.close
+    (tie.spec filling-pressure-requires floor-requires returns hopper-numbers-requires returns-2)

@@ -1,70 +1,68 @@
--- The filling loads are those of the depth, and d_c is the section's.
+-- The filling loads are those of the depth, p_he and p_we rest on them, and the patch on the rounded p_he and on the section's d_c.
 use borrow.Author.Needs.{needs}
-use Prim.Native.Nat.{ℕ}
-use mathlib.Core.Path.{_≡_, _∙_, ap}
-use native.Mathlib.Omega.{arith}
+use mathlib.Core.Path.{_∙_, ap, ap₂}
+use mathlib.Core.List.{[], _∷_}
 use Rattle.janssen.specs.declared.FillingLoads.{FillingLoads}
-use Rattle.janssen.specs.program.Prepare.{filling-loads}
-use Rattle.janssen.specs.Filling.Kind.{horizontal, wall-friction, vertical}
 use Rattle.janssen.specs.program.Pressure.{filling, wall-load}
-use Rattle.loads.specs.Load.{load-depth}
-use Rattle.loads.specs.program.Rows.{eight, depth-row}
-use Rattle.loads.proofs.RowLaws.{d-c-positive, d-c-most, filling-small}
+use Rattle.janssen.specs.program.Prepare.{loads-on}
+use Rattle.discharge.specs.Discharge.{magnified-load, patch-load}
+use Rattle.loads.specs.declared.Basis.{Basis}
+use Rattle.loads.specs.Load.{load-depth, C-h, C-w}
+use Rattle.loads.specs.program.Basis.{depth-numbers}
+use Rattle.loads.proofs.LoadLaws.{prepared-reaches, shorter-fits}
 use Rattle.loads.proofs.depth_numbers.Statement.{statement}
 use Rattle.loads.proofs.depth_numbers.Tie as tie
 
 loads-at-requires : tie.Need-loads-at-requires
 unfolding load-depth
 loads-at-requires c κs =
-    let b = c .before .args .basis in
-    let sound = c .before .pre .1 in
-    (c .before .pre .0, (b .section, b .product, sound .fits .range, c .before .pre .2, sound .prepared-right))
+    let start = c .before in
+    (start .pre .0, prepared-reaches (start .args .basis) (start .pre .1) (start .args .z) (start .pre .2))
 
-cast-eight-numbers : tie.Need-cast-eight-numbers
+horizontal-discharge-requires : tie.Need-horizontal-discharge-requires
+horizontal-discharge-requires c κs = search needs
+
+friction-discharge-requires : tie.Need-friction-discharge-requires
+friction-discharge-requires c κs = search needs
+
+patch-requires : tie.Need-patch-requires
+patch-requires c κs =
+    let start = c .before .before .before .before .before .before in
+    let d = shorter-fits (start .args .basis) (start .pre .1) in
+    (d .0, d .1, d .2, c .before .horizontal-discharge .ensures .1)
+
+cast-t11 : tie.Need-cast-t11
 unfolding load-depth
-cast-eight-numbers c = search needs
-
-eight-numbers-requires : tie.Need-eight-numbers-requires
-eight-numbers-requires c κs =
-    let b = c .before .before .args .basis in
-    let sound = c .before .before .pre .1 in
-    let same : c .loads-at .result ≡ filling-loads (b .section) (b .product) (c .before .before .args .z) =
-    c .loads-at .ensures (b .section) (b .product) (sound .prepared-right) in
-    let z = c .before .before .args .z in (
-      omega (arith, ap (λ (f : FillingLoads). f .horizontal .0) same, filling-small horizontal (b .section) (b .product) z (sound .fits .range)),
-      omega (arith, ap (λ (f : FillingLoads). f .«wall_friction» .0) same, filling-small wall-friction (b .section) (b .product) z (sound .fits .range)),
-      sound .fits .factor-most,
-      omega (arith, sound .shorter-right, d-c-positive (b .section) (b .product) (sound .fits .range)),
-      omega (arith, sound .shorter-right, d-c-most (b .section) (b .product) (sound .fits .range)),
-      omega (arith, sound .shorter-right, sound .fits .eccentricity-most),
-    )
+cast-t11 c = search needs
 
 returns : tie.Need-returns
-unfolding depth-row load-depth
+unfolding depth-numbers load-depth filling wall-load
 returns c =
-    let b = c .before .before .before .args .basis in
-    let sound = c .before .before .before .pre .1 in
-    let same : c .before .loads-at .result ≡ filling-loads (b .section) (b .product) (c .before .before .before .args .z) =
-    c .before .loads-at .ensures (b .section) (b .product) (sound .prepared-right) in
-    let z = c .before .before .before .args .z in
-    c .eight-numbers .ensures ∙
-    ap
-    (λ (f : FillingLoads).
-    eight (b .product .factor) (b .eccentricity) (b .shorter) z (f .horizontal .0) (f .«wall_friction» .0) (f .vertical .0) (f .«wall_load» .0))
-    same ∙
-    ap
-    (λ (d : ℕ).
-    eight
-    (b .product .factor)
-    (b .eccentricity)
-    d
-    z
-    (filling horizontal (b .section) (b .product) z)
-    (filling wall-friction (b .section) (b .product) z)
-    (filling vertical (b .section) (b .product) z)
-    (wall-load (b .section) (b .product) z))
-    (sound .shorter-right)
+    let start = c .before .before .before .before .before .before .before in
+    let b = start .args .basis in
+    let right = start .pre .1 .right in
+    let same = c .before .before .before .before .before .loads-at .ensures .0 ∙ ap (λ (x : Basis). loads-on (x .prepared) (start .args .z)) right in
+    let h = c .before .before .horizontal-discharge .ensures .0 ∙ ap (λ (x : FillingLoads). magnified-load (C-h (b .silo)) (x .horizontal .0)) same in
+    let w = c .before .friction-discharge .ensures ∙ ap (λ (x : FillingLoads). magnified-load (C-w (b .silo)) (x .«wall_friction» .0)) same in
+    let p = c .patch .ensures ∙ ap₂ (patch-load (b .silo .eccentricity)) (ap (λ (x : Basis). x .shorter) right) h in
+    λ i.
+    start .args .z
+    ∷ same i .horizontal .0
+    ∷ same i .«wall_friction» .0
+    ∷ same i .vertical .0
+    ∷ same i .«wall_load» .0
+    ∷ h i
+    ∷ w i
+    ∷ p i
+    ∷ []
 
 pub depth-numbers-spec : {M : Type 1} → statement M
 depth-numbers-spec =
-    tie.close (tie.spec loads-at-requires cast-eight-numbers eight-numbers-requires returns)
+    tie.close
+    (tie.spec
+    loads-at-requires
+    horizontal-discharge-requires
+    friction-discharge-requires
+    patch-requires
+    cast-t11
+    returns)

@@ -1,12 +1,12 @@
 -- The filling pressure is that of the lower edge.
+use borrow.Author.Needs.{needs}
 use mathlib.Core.Path.{_∙_, ap}
-use native.Mathlib.Omega.{arith}
-use Rattle.fraction.specs.Fraction.{_⊘_}
-use Rattle.janssen.specs.declared.Prepared.{Prepared}
-use Rattle.janssen.specs.Filling.Kind.{horizontal}
-use Rattle.discharge.specs.Discharge.{discharge-load}
-use Rattle.loads.specs.Load.{load-depth}
-use Rattle.loads.proofs.RowLaws.{filling-small}
+use Rattle.janssen.specs.program.Pressure.{filling}
+use Rattle.janssen.specs.program.Prepare.{pressure-on}
+use Rattle.discharge.specs.Discharge.{magnified-load}
+use Rattle.loads.specs.declared.Basis.{Basis}
+use Rattle.loads.specs.Load.{load-depth, C-h}
+use Rattle.loads.proofs.LoadLaws.{prepared-reaches}
 use Rattle.loads.proofs.strake_number.Statement.{statement}
 use Rattle.loads.proofs.strake_number.Tie as tie
 
@@ -14,25 +14,18 @@ filling-pressure-requires : tie.Need-filling-pressure-requires
 unfolding load-depth
 filling-pressure-requires c κs =
     let start = c .before .before in
-    let b = start .args .basis in
-    let sound = start .pre .1 in
-    (start .pre .0, (horizontal, b .section, b .product, sound .fits .range, start .pre .2, ap (λ (x : Prepared). x .horizontal) (sound .prepared-right)))
+    (start .pre .0, prepared-reaches (start .args .basis) (start .pre .1) (start .args .edge) (start .pre .2) .horizontal-reaches)
 
 horizontal-discharge-requires : tie.Need-horizontal-discharge-requires
-horizontal-discharge-requires c κs =
-    let start = c .before .before .before in
-    let b = start .args .basis in
-    let sound = start .pre .1 in
-    let same = c .filling-pressure .ensures horizontal (b .section) (b .product) (ap (λ (x : Prepared). x .horizontal) (sound .prepared-right)) in
-    (sound .fits .factor-most, omega (arith, same, filling-small horizontal (b .section) (b .product) (start .args .edge) (sound .fits .range)))
+horizontal-discharge-requires c κs = search needs
 
 returns : tie.Need-returns
-unfolding load-depth
+unfolding load-depth filling
 returns c =
     let start = c .before .before .before .before in
-    let b = start .args .basis in
-    let same = c .before .filling-pressure .ensures horizontal (b .section) (b .product) (ap (λ (x : Prepared). x .horizontal) (start .pre .1 .prepared-right)) in
-    c .horizontal-discharge .ensures .0 ∙ ap (discharge-load (b .product .factor ⊘ 100)) same
+    let same = c .before .filling-pressure .ensures .0 ∙ ap (λ (x : Basis). pressure-on (x .prepared .horizontal) (start .args .edge)) (start .pre .1 .right) in
+    c .horizontal-discharge .ensures .0 ∙ ap (magnified-load (C-h (start .args .basis .silo))) same
 
 pub strake-number-spec : {M : Type 1} → statement M
-strake-number-spec = tie.close (tie.spec filling-pressure-requires horizontal-discharge-requires returns)
+strake-number-spec =
+    tie.close (tie.spec filling-pressure-requires horizontal-discharge-requires returns)

@@ -1,42 +1,19 @@
--- What the loads of a sheet rest on, as the program holds it.
+-- What is worked out once for a silo, what the silo of an accepted sheet meets, and the numbers of a depth in the program's order.
 use Prim.Native.Nat.{ℕ, _*_, _≤_}
 use mathlib.Core.Path.{_≡_}
-use Rattle.janssen.specs.declared.Section.{Section}
-use Rattle.janssen.specs.declared.Product.{Product}
+use mathlib.Core.List.{List, [], _∷_, map}
 use Rattle.janssen.specs.Section.{d-c}
 use Rattle.janssen.specs.program.Range.{InRange, InDepth}
+use Rattle.janssen.specs.program.Pressure.{computed}
 use Rattle.janssen.specs.program.Prepare.{prepared-for}
+use Rattle.loads.specs.declared.Silo.{Silo}
 use Rattle.loads.specs.declared.Basis.{Basis}
-use Rattle.loads.specs.Load.{Silo, load-depth}
+use Rattle.loads.specs.Load.{Load}
+use Rattle.loads.specs.Load.{load-depth, number}
+use Rattle.loads.specs.Load.Load.{listed-depth, p-hf, p-wf, p-vf, P-w, p-he, p-we, p-p}
 
 abbrev pub basis-for : Silo → Basis
-basis-for c =
-    record {
-      section = c .section;
-      product = c .product;
-      prepared = prepared-for (c .section) (c .product);
-      eccentricity = c .eccentricity;
-      shorter = d-c (c .section);
-      height = c .height;
-      run = c .run;
-      foot = c .foot;
-    }
-
--- a silo from its parts
-abbrev pub silo-from : Section → Product → ℕ → ℕ → ℕ → ℕ → Silo
-silo-from s p e H r foot = record { section = s; product = p; eccentricity = e; height = H; run = r; foot = foot }
-
--- the silo that a basis is of
-abbrev pub silo-in : Basis → Silo
-silo-in b =
-    record {
-      section = b .section;
-      product = b .product;
-      eccentricity = b .eccentricity;
-      height = b .height;
-      run = b .run;
-      foot = b .foot;
-    }
+basis-for c = record { silo = c; prepared = prepared-for (c .section) (c .product); shorter = d-c (c .section) }
 
 -- a depth at which loads are worked out
 abbrev pub Reached : Silo → ℕ → Type 0
@@ -53,6 +30,12 @@ pub record Fits (c : Silo) : Type 0 where
 
 -- its basis
 pub record Sound (b : Basis) : Type 0 where
-  pub fits : Fits (silo-in b)
-  pub prepared-right : b .prepared ≡ prepared-for (b .section) (b .product)
-  pub shorter-right : b .shorter ≡ d-c (b .section)
+  pub fits : Fits (b .silo)
+  pub right : b ≡ basis-for (b .silo)
+
+-- the numbers of a depth
+abbrev pub eight : List Load
+eight = listed-depth ∷ p-hf ∷ p-wf ∷ p-vf ∷ P-w ∷ p-he ∷ p-we ∷ p-p ∷ []
+
+unfoldable pub depth-numbers : Silo → ℕ → List ℕ
+depth-numbers c depth = map (λ l. number computed c l depth) eight

@@ -1,14 +1,12 @@
--- `loads::fill::fill` meets its contract: what each call asks holds of the silo read from an accepted sheet and of its basis, and the
--- three parts that the calls store are the answer list (`whole-list`).
+-- `answers::fill::fill` meets its contract: what each call asks holds of an accepted sheet, of its basis and of its wall, and the three
+-- parts that the calls store are the answer list (`whole-list`).
 -- Assumes nothing.
-use Prim.Native.Nat.{_*_}
-use mathlib.Core.Path.{_≡_, ap, _∙_}
+use mathlib.Core.Path.{_≡_, refl, _∙_}
+use borrow.Author.Needs.{needs}
 use native.Mathlib.Omega.{arith}
 use lib.ListN.{length}
-use lib.Seq.{sets}
-use Rattle.answers.proofs.Depths.{basis-sound}
-use Rattle.answers.proofs.Whole.{room, whole-list, strakes-few, silo-range, basis-is, wall-fits, wall-count, wall-depth, bottom-is, strakes-are}
-use borrow.Author.Needs.{needs}
+use Rattle.description.specs.program.Wall.{silo-read}
+use Rattle.answers.proofs.Whole.{room, whole-list, basis-sound, strakes-few, wall-fits, wall-reached}
 use Rattle.answers.proofs.fill.fill.Statement.{statement}
 use Rattle.answers.proofs.fill.fill.Tie as tie
 
@@ -20,25 +18,15 @@ read-silo-requires c κs =
     let start = c .before .before .before in
     strakes-few (start .args .sheet .now) (start .pre .0)
 
-wall-height-requires : tie.Need-wall-height-requires
-wall-height-requires c κs = search needs
-
-basis-of-requires : tie.Need-basis-of-requires
-basis-of-requires c κs =
-    let start = c .before .before .before .before .before .before in
-    let silo = c .before .before .read-silo in
-    silo-range (start .args .sheet .now) (start .pre .0) (silo .result) (silo .ensures)
+sheet-basis-requires : tie.Need-sheet-basis-requires
+sheet-basis-requires c κs = search needs
 
 fill-depths-requires : tie.Need-fill-depths-requires
 fill-depths-requires c κs =
-    let start = c .before .before .before .before .before .before .before .before .before in
-    let s = start .args .sheet .now in
-    let h = start .pre .0 in
-    let silo = c .before .before .before .before .before .read-silo in
-    let foot = c .before .before .before .wall-height in
-    let basis = c .before .before .basis-of in
-    let is = basis-is s h (silo .result) (silo .ensures) (basis .result) (foot .result) (foot .ensures .0) (basis .ensures) in
-    (c .before .before .before .before .before .before .entries .ensures, h, is, omega (arith, room s (length (start .args .list .now)) (start .pre .1)))
+    let made = c .before .before in
+    let start = made .before .before .before .before .before in
+    let has = room (start .args .sheet .now) (length (start .args .list .now)) (start .pre .1) in
+    (made .before .before .entries .ensures .0, start .pre .0, made .sheet-basis .ensures, omega (arith, has))
 
 depth-count-requires : tie.Need-depth-count-requires
 depth-count-requires c κs = search needs
@@ -48,69 +36,65 @@ mul-at c = search needs
 
 fill-bottom-requires : tie.Need-fill-bottom-requires
 fill-bottom-requires c κs =
-    let start = c .before .before .before .before .before .before .before .before .before .before .before .before .before .before .before in
+    let counted = c .before .before in
+    let filled = counted .before .before .before in
+    let made = filled .before .before .before in
+    let start = made .before .before .before .before .before in
     let s = start .args .sheet .now in
-    let h = start .pre .0 in
-    let silo = c .before .before .before .before .before .before .before .before .before .before .before .read-silo in
-    let foot = c .before .before .before .before .before .before .before .before .before .wall-height in
-    let basis = c .before .before .before .before .before .before .before .before .basis-of in
-    let is = basis-is s h (silo .result) (silo .ensures) (basis .result) (foot .result) (foot .ensures .0) (basis .ensures) in
-    let filled = c .before .before .before .before .before .fill-depths in
-    let n = c .before .before .depth-count .ensures .0 in
-    let kept : length (filled .last .1 .1 .1 .0) ≡ length (start .args .list .now) = filled .kept .1 .1 .1 .0 in (
-      c .before .before .before .before .before .before .before .before .before .before .before .before .entries .ensures,
-      basis-sound s (basis .result) h is,
-      omega (arith, room s (length (start .args .list .now)) (start .pre .1), n, kept),
+    let list = start .args .list .now in
+    let has = room s (length list) (start .pre .1) in
+    let kept : length (filled .fill-depths .last .1 .1 .1 .0) ≡ length list = filled .fill-depths .kept .1 .1 .1 .0 in (
+      made .before .before .entries .ensures .0,
+      rw (made .sheet-basis .ensures) (basis-sound s (start .pre .0)),
+      omega (arith, has, counted .depth-count .ensures .0, kept),
     )
 
 add-fill-strakes : tie.Need-add-fill-strakes
 add-fill-strakes c = search needs
 
 fill-strakes-requires : tie.Need-fill-strakes-requires
+unfolding silo-read
 fill-strakes-requires c κs =
-    let start = c .before .before .before .before .before .before .before .before .before .before .before .before .before .before .before .before .before .before .before .before .before in
+    let bottom = c .before .before .before .before .before in
+    let counted = bottom .before .before .before in
+    let filled = counted .before .before .before in
+    let made = filled .before .before .before in
+    let start = made .before .before .before .before .before in
     let s = start .args .sheet .now in
+    let list = start .args .list .now in
     let h = start .pre .0 in
-    let silo = c .before .before .before .before .before .before .before .before .before .before .before .before .before .before .before .before .before .read-silo in
-    let foot = c .before .before .before .before .before .before .before .before .before .before .before .before .before .before .before .wall-height in
-    let basis = c .before .before .before .before .before .before .before .before .before .before .before .before .before .before .basis-of in
-    let is = basis-is s h (silo .result) (silo .ensures) (basis .result) (foot .result) (foot .ensures .0) (basis .ensures) in
-    let wall = wall-fits s h (silo .result) (silo .ensures) in
-    let filled = c .before .before .before .before .before .before .before .before .before .before .before .fill-depths in
-    let bottom = c .before .before .before .before .before .fill-bottom in
-    let n = c .before .before .before .before .before .before .before .before .depth-count .ensures .0 in
-    let kept : length (filled .last .1 .1 .1 .0) ≡ length (start .args .list .now) = filled .kept .1 .1 .1 .0 in
-    let kept' : length (bottom .last .1 .1 .0) ≡ length (filled .last .1 .1 .1 .0) = bottom .kept .1 .1 .0 in (
-      c .before .before .before .before .before .before .before .before .before .before .before .before .before .before .before .before .before .before .entries .ensures,
-      basis-sound s (basis .result) h is,
-      wall .0,
+    let wall = wall-fits s h in
+    let has = room s (length list) (start .pre .1) in
+    let kept : length (filled .fill-depths .last .1 .1 .1 .0) ≡ length list = filled .fill-depths .kept .1 .1 .1 .0 in
+    let kept' : length (bottom .fill-bottom .last .1 .1 .0) ≡ length (filled .fill-depths .last .1 .1 .1 .0) = bottom .fill-bottom .kept .1 .1 .0 in
+    rw (made .sheet-basis .ensures, made .before .read-silo .ensures) (
+      made .before .before .entries .ensures .0,
+      basis-sound s h,
+      omega (arith, wall .0, strakes-few s h),
       wall .1,
-      wall-depth s h (silo .result) (silo .ensures) (basis .result) is,
-      omega (arith, room s (length (start .args .list .now)) (start .pre .1), n, kept, kept', wall-count s h (silo .result) (silo .ensures)),
+      wall-reached s h,
+      omega (arith, has, counted .depth-count .ensures .0, kept, kept', wall .0),
     )
 
 same-length : tie.Need-same-length
 same-length c = search needs
 
 returns : tie.Need-returns
+unfolding silo-read
 returns c =
-    let start = c .before .before .before .before .before .before .before .before .before .before .before .before .before .before .before .before .before .before .before .before .before .before .before .before in
+    let strakes = c .before .before in
+    let bottom = strakes .before .before .before .before .before .before in
+    let counted = bottom .before .before .before in
+    let filled = counted .before .before .before in
+    let made = filled .before .before .before in
+    let start = made .before .before .before .before .before in
     let s = start .args .sheet .now in
-    let h = start .pre .0 in
-    let silo = c .before .before .before .before .before .before .before .before .before .before .before .before .before .before .before .before .before .before .before .before .read-silo in
-    let foot = c .before .before .before .before .before .before .before .before .before .before .before .before .before .before .before .before .before .before .wall-height in
-    let basis = c .before .before .before .before .before .before .before .before .before .before .before .before .before .before .before .before .before .basis-of in
-    let is = basis-is s h (silo .result) (silo .ensures) (basis .result) (foot .result) (foot .ensures .0) (basis .ensures) in
-    let filled = c .before .before .before .before .before .before .before .before .before .before .before .before .before .before .fill-depths in
-    let bottom = c .before .before .before .before .before .before .before .before .fill-bottom in
-    let count = c .before .before .before .before .before .before .before .before .before .before .before .depth-count in
-    let strakes = c .before .before .fill-strakes in
-    whole-list s (start .args .list .now) (filled .last .1 .1 .1 .0) (bottom .last .1 .1 .0) (strakes .last .1 .1 .1 .0)
-    (count .result) (count .ensures .0) (start .pre .1)
-    (filled .ensures)
-    (bottom .ensures
-    ∙ ap (sets (filled .last .1 .1 .1 .0) (8 * count .result)) (bottom-is s h (silo .result) (silo .ensures) (basis .result) is))
-    (strakes-are s h (silo .result) (silo .ensures) (basis .result) is _ _ _ (strakes .ensures))
+    let basis = made .sheet-basis .ensures in
+    whole-list s (start .args .list .now) (filled .fill-depths .last .1 .1 .1 .0) (bottom .fill-bottom .last .1 .1 .0)
+    (strakes .fill-strakes .last .1 .1 .1 .0) (counted .depth-count .result) (counted .depth-count .ensures .0) (start .pre .1)
+    (filled .fill-depths .ensures)
+    (bottom .fill-bottom .ensures ∙ rw basis refl)
+    (strakes .fill-strakes .ensures ∙ rw (basis, made .before .read-silo .ensures, wall-fits s (start .pre .0) .2) refl)
 
 pub fill-spec : {M : Type 1} → statement M
 fill-spec =
@@ -118,8 +102,7 @@ fill-spec =
     (tie.spec
     entries-requires
     read-silo-requires
-    wall-height-requires
-    basis-of-requires
+    sheet-basis-requires
     fill-depths-requires
     depth-count-requires
     mul-at

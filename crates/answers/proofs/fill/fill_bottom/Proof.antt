@@ -1,4 +1,4 @@
--- `loads::fill::fill_bottom` meets its contract: the row that is stored is the bottom's.
+-- `answers::fill::fill_bottom` meets its contract: the numbers stored are the bottom's.
 -- Assumes nothing.
 use mathlib.Core.Path.{ap, _∙_}
 use lib.Seq.{sets}
@@ -20,8 +20,10 @@ same-length c = search needs
 
 returns : tie.Need-returns
 returns c =
-    let a = c .before .before .before .before .before .before .before .args in
-    c .before .before .store .ensures ∙ ap (sets (a .list .now) (a .at)) (c .before .before .before .before .before .bottom-numbers .ensures)
+    let stored = c .before .before in
+    let made = stored .before .before .before in
+    let a = made .before .before .args in
+    stored .store .ensures ∙ ap (sets (a .list .now) (a .at)) (made .bottom-numbers .ensures)
 
 pub fill-bottom-spec : {M : Type 1} → statement M
 fill-bottom-spec =

@@ -1,30 +1,27 @@
--- `loads::fill::fill_depths` meets its contract. The invariant: `at` is where the depth i stands in the sheet, and what is to be
--- stored in all is what is still to be stored from 8·i, the rows of the depths from `at` on.
+-- `answers::fill::fill_depths` meets its contract. The invariant: `at` is where the depth i stands in the sheet, and what is to be
+-- stored in all is what is still to be stored from 8·i, the numbers of the depths from i on.
 -- Assumes nothing.
 use Prim.Native.Nat.{ℕ, _+_, _-_, _*_, _≤_, _<_}
 use mathlib.Core.Path.{_≡_, refl, ap, sym, _∙_}
-use mathlib.Core.List.{List}
 use borrow.Author.Needs.{needs}
 use native.Mathlib.Omega.{arith}
 use lib.ListN.{length}
 use lib.Seq.{sets, length-sets}
-use Rattle.records.specs.Format.{u32, numbers, payload}
-use Rattle.description.specs.Silo.{depths-of, depth-count}
-use Rattle.records.proofs.Numbers.{numbers-start}
-use Rattle.loads.specs.program.Rows.{depth-row}
-use Rattle.answers.specs.Answers.{silo-of}
-use Rattle.answers.specs.program.Fill.{depth-rows}
-use Rattle.answers.proofs.Depths.{rows-next, rows-done, depth-read, basis-sound, basis-listed, row-is}
+use Rattle.records.specs.Format.{payload}
+use Rattle.description.specs.Silo.{depth-count}
+use Rattle.sheet.proofs.Acceptance.{accepted}
+use Rattle.answers.specs.program.Fill.{each, at-depth, depths-part}
+use Rattle.answers.proofs.Stores.{each-next, each-done}
+use Rattle.answers.proofs.Places.{length-at-depth}
+use Rattle.answers.proofs.Demand.{depth-reached}
+use Rattle.answers.proofs.Whole.{depth-read, basis-sound}
 use Rattle.answers.proofs.fill.fill_depths.Statement.{statement}
 use Rattle.answers.proofs.fill.fill_depths.Tie as tie
-
-abbrev rows-of : List ℕ → List ℕ → List ℕ
-rows-of s l = depth-rows (silo-of s) l
 
 abbrev Inv-loop : tie.InvT-loop
 Inv-loop entries sheet basis list₀ count at₀ i₀ list at i =
     (i ≤ count) × (count ≡ depth-count sheet) × (length list ≡ length list₀) × (at ≡ payload sheet 5 + 4 * i)
-    × (sets list₀ 0 (rows-of sheet (depths-of sheet)) ≡ sets list (8 * i) (rows-of sheet (numbers (u32 sheet) 4 at (count - i))))
+    × (sets list₀ 0 (depths-part sheet) ≡ sets list (8 * i) (each (at-depth sheet) i (depth-count sheet - i)))
 
 abbrev μ-loop : tie.MeasureT-loop
 μ-loop entries sheet basis list₀ count at₀ i₀ list at i = count - i
@@ -36,17 +33,15 @@ payload-place-requires : tie.Need-payload-place-requires Inv-loop μ-loop
 payload-place-requires c κs = search needs
 
 loop-holds : tie.Need-loop-holds Inv-loop μ-loop
-unfolding depths-of
 loop-holds c =
-    let s = c .before .before .before .before .args .sheet .now in
-    let l = c .before .before .before .before .args .list .now in
-    let n = c .before .depth-count .ensures .0 in
-    let at = c .payload-place .ensures .0 in (
+    let a = c .before .before .before .before .args in
+    let s = a .sheet .now in
+    let all : depth-count s ≡ depth-count s - 0 = omega arith in (
       omega arith,
-      n,
+      c .before .depth-count .ensures .0,
       refl,
-      omega (arith, at),
-      ap (λ (x : List ℕ). sets l 0 (rows-of s x)) (numbers-start (u32 s) 4 at n),
+      omega (arith, c .payload-place .ensures .0),
+      ap (λ (n : ℕ). sets (a .list .now) 0 (each (at-depth s) 0 n)) all,
     )
 
 four-bytes-requires : tie.Need-four-bytes-requires Inv-loop μ-loop
@@ -57,12 +52,11 @@ depth-numbers-requires c κs =
     let l = c .before .before .loop in
     let start = c .before .before .before .before .before .before .before in
     let s = start .args .sheet .now in
-    let b = start .args .basis in
+    let pre = start .pre in
     let i : l .i < depth-count s = omega (arith, c .before .loop-test .taken, l .inv .1) in (
-      start .pre .0,
-      basis-sound s b (start .pre .1) (start .pre .2),
-      basis-listed s b (start .pre .1) (start .pre .2) (l .i) (c .four-bytes .result) i
-          (c .four-bytes .ensures .0 ∙ depth-read s (l .i) (l .at) i (l .inv .3)),
+      pre .0,
+      rw (pre .2) (basis-sound s (pre .1)),
+      rw (pre .2, c .four-bytes .ensures .0, depth-read s (l .i) (l .at) i (l .inv .3)) (depth-reached s (accepted s (pre .1)) (l .i) i),
     )
 
 mul-store : tie.Need-mul-store Inv-loop μ-loop
@@ -85,26 +79,23 @@ loop-less c = search needs
 
 loop-again : tie.Need-loop-again Inv-loop μ-loop
 loop-again c =
-    let l = c .before .before .before .before .before .before .before .before .loop in
-    let t = c .before .before .before .before .before .before .before .loop-test .taken in
-    let start = c .before .before .before .before .before .before .before .before .before .before .before .before .before in
-    let s = start .args .sheet .now in
-    let b = start .args .basis in
     let stored = c .before .before .store in
     let row = c .before .before .before .before .before .depth-numbers in
-    let z = c .before .before .before .before .before .before .four-bytes in
-    let n = c .before .before .before .before .before .before .before .before .before .before .depth-count .result in
-    let e : row .result ≡ depth-row (silo-of s) (u32 s (l .at)) =
-    row-is s b (start .pre .1) (start .pre .2) (row .result) (z .result) (row .ensures)
-    ∙ ap (depth-row (silo-of s)) (z .ensures .0) in (
-      omega (arith, t),
+    let read = c .before .before .before .before .before .before in
+    let l = read .before .before .loop in
+    let start = read .before .before .before .before .before .before .before in
+    let s = start .args .sheet .now in
+    let pre = start .pre in
+    let i : l .i < depth-count s = omega (arith, read .before .loop-test .taken, l .inv .1) in
+    let z = read .four-bytes .ensures .0 ∙ depth-read s (l .i) (l .at) i (l .inv .3) in
+    let e : row .result ≡ at-depth s (l .i) = row .ensures ∙ rw (pre .2, z) refl in (
+      omega (arith, read .before .loop-test .taken),
       l .inv .1,
       ap length (stored .ensures) ∙ length-sets (l .list) (8 * l .i) (row .result) ∙ l .inv .2,
       omega (arith, l .inv .3),
       l .inv .4
-          ∙ rows-next (silo-of s) (u32 s) n (l .list) (l .at) (l .i) t
-          ∙ ap (λ (x : List ℕ). sets x (8 * (l .i + 1)) (rows-of s (numbers (u32 s) 4 (l .at + 4) (n - (l .i + 1)))))
-          (sym (stored .ensures ∙ ap (sets (l .list) (8 * l .i)) e)),
+          ∙ each-next (at-depth s) (l .list) (8 * l .i) (8 * (l .i + 1)) (depth-count s) (l .i) i (omega (arith, length-at-depth s (l .i)))
+          ∙ rw (← e, ← stored .ensures) refl,
     )
 
 same-length : tie.Need-same-length Inv-loop μ-loop
@@ -113,11 +104,8 @@ same-length c = search needs
 returns : tie.Need-returns Inv-loop μ-loop
 returns c =
     let l = c .before .loop in
-    let start = c .before .before .before .before .before .before in
-    let s = start .args .sheet .now in
-    sym
-    (l .inv .4
-    ∙ rows-done (silo-of s) (u32 s) (c .before .before .before .depth-count .result) (l .list) (l .at) (l .i) (c .loop-test .left))
+    let s = c .before .before .before .before .before .before .args .sheet .now in
+    sym (l .inv .4 ∙ each-done (at-depth s) (l .list) (8 * l .i) (depth-count s) (l .i) (omega (arith, c .loop-test .left, l .inv .1)))
 
 pub fill-depths-spec : {M : Type 1} → statement M
 fill-depths-spec =

@@ -1,4 +1,4 @@
--- `loads::fill::store` meets its contract. The invariant: what is to be stored in all from `at` is what is still to be stored from
+-- `answers::fill::store` meets its contract. The invariant: what is to be stored in all from `at` is what is still to be stored from
 -- `at + i`.
 -- Assumes nothing.
 use Prim.Native.Nat.{_+_, _-_, _≤_}
@@ -12,16 +12,16 @@ use Rattle.answers.proofs.fill.store.Statement.{statement}
 use Rattle.answers.proofs.fill.store.Tie as tie
 
 abbrev Inv-loop : tie.InvT-loop
-Inv-loop list₀ at row i₀ list i =
-    (i ≤ length row) × (length list ≡ length list₀) × (sets list₀ at row ≡ sets list (at + i) (drop i row))
+Inv-loop list₀ at numbers i₀ list i =
+    (i ≤ length numbers) × (length list ≡ length list₀) × (sets list₀ at numbers ≡ sets list (at + i) (drop i numbers))
 
 abbrev μ-loop : tie.MeasureT-loop
-μ-loop list₀ at row i₀ list i = length row - i
+μ-loop list₀ at numbers i₀ list i = length numbers - i
 
 loop-holds : tie.Need-loop-holds Inv-loop μ-loop
 loop-holds c =
     let a = c .args in
-    (omega arith, refl, sets-start (a .list .now) (a .row .now) (a .at))
+    (omega arith, refl, sets-start (a .list .now) (a .numbers .now) (a .at))
 
 mul-list : tie.Need-mul-list Inv-loop μ-loop
 mul-list c = search needs
@@ -50,7 +50,7 @@ loop-again c =
     let a = c .before .before .before .args in (
       search needs,
       simp length-set (l .inv .1),
-      l .inv .2 ∙ sets-next (l .list) (a .row .now) (a .at) (l .i) (c .before .loop-test .taken),
+      l .inv .2 ∙ sets-next (l .list) (a .numbers .now) (a .at) (l .i) (c .before .loop-test .taken),
     )
 
 same-length : tie.Need-same-length Inv-loop μ-loop
@@ -60,7 +60,7 @@ returns : tie.Need-returns Inv-loop μ-loop
 returns c =
     let l = c .before .loop in
     let a = c .before .before .args in
-    sym (l .inv .2 ∙ sets-done (l .list) (a .row .now) (a .at) (l .i) (c .loop-test .left))
+    sym (l .inv .2 ∙ sets-done (l .list) (a .numbers .now) (a .at) (l .i) (c .loop-test .left))
 
 pub store-spec : {M : Type 1} → statement M
 store-spec =

@@ -1,10 +1,8 @@
 -- By the refusal, 0 or not.
 use mathlib.Core.Path.{sym, _∙_, ap}
 use denote.Ref.{now}
-use Rattle.sheet.specs.Refusal.{refusal-of}
-use Rattle.answers.specs.Length.{answers-length, length-due}
 use Rattle.answers.specs.declared.length.AnswersLength.the-variants.{Due, Refused}
-use Rattle.answers.proofs.LengthLaws.{refused, accepted-length}
+use Rattle.answers.proofs.LengthLaws.{refused-length, accepted-length}
 use borrow.Author.Needs.{needs}
 use Rattle.answers.proofs.length.answers_length.Statement.{statement}
 use Rattle.answers.proofs.length.answers_length.Tie as tie
@@ -13,11 +11,9 @@ refusal-requires : tie.Need-refusal-requires
 refusal-requires c κs = search needs
 
 returns : tie.Need-returns
-unfolding answers-length
 returns c =
-    let s = now (c .before .before .before .args .sheet) in
     let e = c .before .refusal .ensures in
-    ap Refused e ∙ sym (refused (refusal-of s) (Due (length-due s)) (λ z. c .if1 .taken (e ∙ z)))
+    ap Refused e ∙ sym (refused-length (now (c .before .before .before .args .sheet)) (λ z. c .if1 .taken (e ∙ z)))
 
 length-due-requires : tie.Need-length-due-requires
 length-due-requires c κs = search needs

@@ -1,35 +1,15 @@
--- The value is read where its definition says.
+-- The pair is read where the definition says.
 use Rattle.description.specs.Silo.{bottom-of}
 use borrow.Author.Needs.{needs}
 use Rattle.description.proofs.values.read_bottom.Statement.{statement}
 use Rattle.description.proofs.values.read_bottom.Tie as tie
 
-payload-place-requires : tie.Need-payload-place-requires
-payload-place-requires c κs = search needs
-
-four-bytes-requires : tie.Need-four-bytes-requires
-four-bytes-requires c κs = search needs
-
-add-four-bytes : tie.Need-add-four-bytes
-add-four-bytes c = search needs
-
-four-bytes-requires-2 : tie.Need-four-bytes-requires-2
-four-bytes-requires-2 c κs = search needs
+read-pair-requires : tie.Need-read-pair-requires
+read-pair-requires c κs = search needs
 
 returns : tie.Need-returns
 unfolding bottom-of
-returns c = (
-  simp (c .before .four-bytes .ensures .0, c .four-bytes2 .ensures .0, c .before .before .payload-place .ensures .0),
-  search needs,
-  search needs,
-)
+returns c = (simp (c .read-pair .ensures .first-read, c .read-pair .ensures .second-read), search needs, search needs)
 
 pub read-bottom-spec : {M : Type 1} → statement M
-read-bottom-spec =
-    tie.close
-    (tie.spec
-    payload-place-requires
-    four-bytes-requires
-    add-four-bytes
-    four-bytes-requires-2
-    returns)
+read-bottom-spec = tie.close (tie.spec read-pair-requires returns)

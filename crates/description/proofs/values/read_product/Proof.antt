@@ -1,5 +1,5 @@
 -- The value is read where its definition says.
-use Rattle.description.specs.Silo.{product-of, product-read}
+use Rattle.description.specs.Silo.{product-of}
 use borrow.Author.Needs.{needs}
 use Rattle.description.proofs.values.read_product.Statement.{statement}
 use Rattle.description.proofs.values.read_product.Tie as tie
@@ -11,7 +11,7 @@ read-factor-requires : tie.Need-read-factor-requires
 read-factor-requires c κs = search needs
 
 returns : tie.Need-returns
-unfolding product-of product-read
+unfolding product-of
 returns c = simp (c .read-factor .ensures, c .before .read-product-sent .ensures)
 
 pub read-product-spec : {M : Type 1} → statement M

@@ -22,19 +22,22 @@ four-bytes-requires-2 c κs = search needs
 
 returns : tie.Need-returns
 unfolding section-of side-a side-b
-returns c = (
-  simp (eq-eqb _ _ (sym (c .before .before .before .read-record .ensures .1) ∙ c .if1 .taken), c .before .before .four-bytes .ensures .0, c .before .before .before .read-record .ensures .2),
-  omega arith,
-  omega arith,
-)
+returns c =
+    let found = c .before .before .before .read-record .ensures in (
+      simp (eq-eqb _ _ (sym (found .kinded) ∙ c .if1 .taken), c .before .before .four-bytes .ensures .0, found .started),
+      omega arith,
+      omega arith,
+    )
 
 returns-2 : tie.Need-returns-2
 unfolding section-of side-a side-b
-returns-2 c = (
-  simp (ne-eqb _ _ (λ z. c .before .if1 .left (c .before .before .before .before .read-record .ensures .1 ∙ z)), c .before .before .before .four-bytes .ensures .0, c .four-bytes2 .ensures .0, c .before .before .before .before .read-record .ensures .2),
-  omega arith,
-  omega arith,
-)
+returns-2 c =
+    let at = c .before .before .before in
+    let found = at .before .read-record .ensures in (
+      simp (ne-eqb _ _ (λ z. c .before .if1 .left (found .kinded ∙ z)), at .four-bytes .ensures .0, c .four-bytes2 .ensures .0, found .started),
+      omega arith,
+      omega arith,
+    )
 
 pub read-section-spec : {M : Type 1} → statement M
 read-section-spec = tie.close (tie.spec read-record-requires four-bytes-requires add-four-bytes four-bytes-requires-2 returns returns-2)

@@ -1,21 +1,11 @@
--- Each return rewrites with the tests that led there.
-use borrow.Author.Tests.{not-true, not-false}
-use mathlib.Core.Path.{_∙_, sym}
-use Rattle.records.specs.Format.{record-rule}
-use Rattle.records.proofs.Records.{due-range}
-use Rattle.records.specs.Format.{record-rule}
-use native.Mathlib.Omega.{arith}
-use borrow.Author.Tests.{lt-leb, le-leb}
+-- Each call's result is what it ensures; the rules tried one after the other give the first that is not met (`tried`).
+use mathlib.Core.Path.{refl}
+use denote.Ref.{now}
+use Rattle.records.specs.Format.{record-rules}
+use Rattle.records.proofs.Chain.{tried}
 use borrow.Author.Needs.{needs}
 use Rattle.records.proofs.rules.record_refusal.Statement.{statement}
 use Rattle.records.proofs.rules.record_refusal.Tie as tie
-
-add-if1 : tie.Need-add-if1
-add-if1 c = search needs
-
-returns : tie.Need-returns
-unfolding record-rule
-returns c = simp (lt-leb _ _ (c .if1 .taken))
 
 add-two-bytes : tie.Need-add-two-bytes
 add-two-bytes c = search needs
@@ -23,89 +13,73 @@ add-two-bytes c = search needs
 two-bytes-requires : tie.Need-two-bytes-requires
 two-bytes-requires c κs = search needs
 
-kind-due-requires : tie.Need-kind-due-requires
-kind-due-requires c κs = search needs
-
-returns-2 : tie.Need-returns-2
-unfolding record-rule
-returns-2 c =
-    simp (
-      le-leb _ _ (c .before .before .before .if1 .left),
-      ← (c .before .before .two-bytes .ensures .0),
-      ← (c .before .kind-due .ensures),
-      not-true (c .before .kind-due .result) (c .if2 .taken),
-    )
-
 two-bytes-requires-2 : tie.Need-two-bytes-requires-2
 two-bytes-requires-2 c κs = search needs
 
+add-end : tie.Need-add-end
+add-end c = search needs
+
+add-end-2 : tie.Need-add-end-2
+add-end-2 c = search needs
+
+add-unless : tie.Need-add-unless
+add-unless c = search needs
+
+unless-requires : tie.Need-unless-requires
+unless-requires c κs = search needs
+
+kind-due-requires : tie.Need-kind-due-requires
+kind-due-requires c κs = search needs
+
+unless-requires-2 : tie.Need-unless-requires-2
+unless-requires-2 c κs = search needs
+
 length-allowed-requires : tie.Need-length-allowed-requires
-length-allowed-requires c κs =
-    due-range (c .before .before .before .before .before .before .args .k) (c .before .before .before .two-bytes .result) (omega arith)
-    (sym (c .before .before .kind-due .ensures)
-    ∙ not-false (c .before .before .kind-due .result) (c .before .if2 .left))
+length-allowed-requires c κs = search needs
 
-returns-3 : tie.Need-returns-3
-unfolding record-rule
-returns-3 c =
+unless-requires-3 : tie.Need-unless-requires-3
+unless-requires-3 c κs = search needs
+
+unless-requires-4 : tie.Need-unless-requires-4
+unless-requires-4 c κs = search needs
+
+returns : tie.Need-returns
+unfolding record-rules
+returns c =
+    let third = c .before in
+    let allowed = third .before in
+    let second = allowed .before in
+    let due = second .before in
+    let first = due .before in
+    let length = first .before in
+    let kind = length .before in
+    let a = kind .before .before .args in
     simp (
-      le-leb _ _ (c .before .before .before .before .before .before .if1 .left),
-      ← (c .before .before .before .before .before .two-bytes .ensures .0),
-      ← (c .before .before .before .before .kind-due .ensures),
-      not-false (c .before .before .before .before .kind-due .result) (c .before .before .before .if2 .left),
-      ← (c .before .before .two-bytes2 .ensures .0),
-      ← (c .before .length-allowed .ensures),
-      not-true (c .before .length-allowed .result) (c .if3 .taken),
+      c .unless4 .ensures,
+      third .unless3 .ensures,
+      allowed .length-allowed .ensures,
+      second .unless2 .ensures,
+      due .kind-due .ensures,
+      first .unless .ensures,
+      length .two-bytes2 .ensures .0,
+      kind .two-bytes .ensures .0,
     )
-
-add-if4 : tie.Need-add-if4
-add-if4 c = search needs
-
-add-if4-2 : tie.Need-add-if4-2
-add-if4-2 c = search needs
-
-returns-4 : tie.Need-returns-4
-unfolding record-rule
-returns-4 c =
-    simp (
-      le-leb _ _ (c .before .before .before .before .before .before .before .if1 .left),
-      ← (c .before .before .before .before .before .before .two-bytes .ensures .0),
-      ← (c .before .before .before .before .before .kind-due .ensures),
-      not-false (c .before .before .before .before .before .kind-due .result) (c .before .before .before .before .if2 .left),
-      ← (c .before .before .before .two-bytes2 .ensures .0),
-      ← (c .before .before .length-allowed .ensures),
-      not-false (c .before .before .length-allowed .result) (c .before .if3 .left),
-      lt-leb _ _ (c .if4 .taken),
-    )
-
-returns-5 : tie.Need-returns-5
-unfolding record-rule
-returns-5 c =
-    simp (
-      le-leb _ _ (c .before .before .before .before .before .before .before .if1 .left),
-      ← (c .before .before .before .before .before .before .two-bytes .ensures .0),
-      ← (c .before .before .before .before .before .kind-due .ensures),
-      not-false (c .before .before .before .before .before .kind-due .result) (c .before .before .before .before .if2 .left),
-      ← (c .before .before .before .two-bytes2 .ensures .0),
-      ← (c .before .before .length-allowed .ensures),
-      not-false (c .before .before .length-allowed .result) (c .before .if3 .left),
-      le-leb _ _ (c .if4 .left),
-    )
+    (tried (record-rules (now (a .sheet)) (a .at) (a .k)) refl)
 
 pub record-refusal-spec : {M : Type 1} → statement M
 record-refusal-spec =
     tie.close
     (tie.spec
-    add-if1
-    returns
     add-two-bytes
     two-bytes-requires
-    kind-due-requires
-    returns-2
     two-bytes-requires-2
+    add-end
+    add-end-2
+    add-unless
+    unless-requires
+    kind-due-requires
+    unless-requires-2
     length-allowed-requires
-    returns-3
-    add-if4
-    add-if4-2
-    returns-4
-    returns-5)
+    unless-requires-3
+    unless-requires-4
+    returns)

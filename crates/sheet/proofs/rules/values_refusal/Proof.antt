@@ -1,6 +1,9 @@
--- Each result is what its callee ensures, put into the rules in order.
+-- Each call's result is what it ensures; the rules tried one after the other give the first that is not met (`tried`).
+use mathlib.Core.Path.{refl}
+use denote.Ref.{now}
+use Rattle.records.proofs.Chain.{tried}
 use Rattle.description.specs.Silo.{h-of}
-use Rattle.sheet.specs.Refusal.{values-rule}
+use Rattle.sheet.specs.Refusal.{value-rules}
 use borrow.Author.Needs.{needs}
 use Rattle.sheet.proofs.rules.values_refusal.Statement.{statement}
 use Rattle.sheet.proofs.rules.values_refusal.Tie as tie
@@ -17,78 +20,118 @@ read-bottom-requires c κs = search needs
 wall-height-requires : tie.Need-wall-height-requires
 wall-height-requires c κs = search needs
 
-sides-refusal-requires : tie.Need-sides-refusal-requires
-sides-refusal-requires c κs = search needs
+add-h : tie.Need-add-h
+add-h c = search needs
+
+height-met-requires : tie.Need-height-met-requires
+height-met-requires c κs = search needs
+
+slender-met-requires : tie.Need-slender-met-requires
+slender-met-requires c κs = search needs
+
+sides-met-requires : tie.Need-sides-met-requires
+sides-met-requires c κs = search needs
+
+unless-requires : tie.Need-unless-requires
+unless-requires c κs = search needs
 
 read-product-sent-requires : tie.Need-read-product-sent-requires
 read-product-sent-requires c κs = search needs
 
-product-refusal-requires : tie.Need-product-refusal-requires
-product-refusal-requires c κs = search needs
+product-met-requires : tie.Need-product-met-requires
+product-met-requires c κs = search needs
+
+unless-requires-2 : tie.Need-unless-requires-2
+unless-requires-2 c κs = search needs
 
 read-eccentricities-requires : tie.Need-read-eccentricities-requires
 read-eccentricities-requires c κs = search needs
 
-eccentricities-refusal-requires : tie.Need-eccentricities-refusal-requires
-eccentricities-refusal-requires c κs = search needs
+eccentricities-met-requires : tie.Need-eccentricities-met-requires
+eccentricities-met-requires c κs = search needs
 
-bottom-refusal-requires : tie.Need-bottom-refusal-requires
-bottom-refusal-requires c κs = search needs
+unless-requires-3 : tie.Need-unless-requires-3
+unless-requires-3 c κs = search needs
 
-strakes-refusal-requires : tie.Need-strakes-refusal-requires
-strakes-refusal-requires c κs = search needs
+is-flat-requires : tie.Need-is-flat-requires
+is-flat-requires c κs = search needs
 
-depths-refusal-requires : tie.Need-depths-refusal-requires
-depths-refusal-requires c κs = search needs
+is-hopper-requires : tie.Need-is-hopper-requires
+is-hopper-requires c κs = search needs
 
-add-shape-refusal : tie.Need-add-shape-refusal
-add-shape-refusal c = search needs
+unless-requires-4 : tie.Need-unless-requires-4
+unless-requires-4 c κs = search needs
 
-shape-refusal-requires : tie.Need-shape-refusal-requires
-shape-refusal-requires c κs = search needs
+strakes-met-requires : tie.Need-strakes-met-requires
+strakes-met-requires c κs = search needs
 
-first-requires : tie.Need-first-requires
-first-requires c κs = search needs
+unless-requires-5 : tie.Need-unless-requires-5
+unless-requires-5 c κs = search needs
 
-first-requires-2 : tie.Need-first-requires-2
-first-requires-2 c κs = search needs
+depths-met-requires : tie.Need-depths-met-requires
+depths-met-requires c κs = search needs
 
-first-requires-3 : tie.Need-first-requires-3
-first-requires-3 c κs = search needs
+unless-requires-6 : tie.Need-unless-requires-6
+unless-requires-6 c κs = search needs
 
-first-requires-4 : tie.Need-first-requires-4
-first-requires-4 c κs = search needs
+unless-requires-7 : tie.Need-unless-requires-7
+unless-requires-7 c κs = search needs
 
-first-requires-5 : tie.Need-first-requires-5
-first-requires-5 c κs = search needs
-
-first-requires-6 : tie.Need-first-requires-6
-first-requires-6 c κs = search needs
+unless-requires-8 : tie.Need-unless-requires-8
+unless-requires-8 c κs = search needs
 
 returns : tie.Need-returns
-unfolding values-rule h-of
+unfolding value-rules h-of
 returns c =
+    let at7 = c .before in
+    let at6 = at7 .before in
+    let depths = at6 .before in
+    let at5 = depths .before in
+    let strakes = at5 .before in
+    let at4 = strakes .before in
+    let hopper = at4 .before in
+    let flat = hopper .before in
+    let at3 = flat .before in
+    let central = at3 .before in
+    let apart = central .before in
+    let at2 = apart .before in
+    let product = at2 .before in
+    let sent = product .before in
+    let at1 = sent .before in
+    let sides = at1 .before in
+    let slender = sides .before in
+    let high = slender .before in
+    let known = high .before in
+    let wall = known .before in
+    let bottom = wall .before in
+    let width = bottom .before in
+    let section = width .before in
     simp (
-      c .first6 .ensures,
-      c .before .first5 .ensures,
-      c .before .before .first4 .ensures,
-      c .before .before .before .first3 .ensures,
-      c .before .before .before .before .first2 .ensures,
-      c .before .before .before .before .before .first .ensures,
-      c .before .before .before .before .before .before .shape-refusal .ensures,
-      c .before .before .before .before .before .before .before .before .depths-refusal .ensures,
-      c .before .before .before .before .before .before .before .before .before .strakes-refusal .ensures,
-      c .before .before .before .before .before .before .before .before .before .before .bottom-refusal .ensures,
-      c .before .before .before .before .before .before .before .before .before .before .before .eccentricities-refusal .ensures,
-      c .before .before .before .before .before .before .before .before .before .before .before .before .read-eccentricities .ensures .0,
-      c .before .before .before .before .before .before .before .before .before .before .before .before .before .product-refusal .ensures,
-      c .before .before .before .before .before .before .before .before .before .before .before .before .before .before .read-product-sent .ensures,
-      c .before .before .before .before .before .before .before .before .before .before .before .before .before .before .before .sides-refusal .ensures,
-      c .before .before .before .before .before .before .before .before .before .before .before .before .before .before .before .before .wall-height .ensures .0,
-      c .before .before .before .before .before .before .before .before .before .before .before .before .before .before .before .before .before .read-bottom .ensures .0,
-      c .before .before .before .before .before .before .before .before .before .before .before .before .before .before .before .before .before .before .shorter-side .ensures .0,
-      c .before .before .before .before .before .before .before .before .before .before .before .before .before .before .before .before .before .before .before .read-section .ensures .0,
+      c .unless8 .ensures,
+      at7 .unless7 .ensures,
+      at6 .unless6 .ensures,
+      depths .depths-met .ensures,
+      at5 .unless5 .ensures,
+      strakes .strakes-met .ensures,
+      at4 .unless4 .ensures,
+      hopper .is-hopper .ensures,
+      flat .is-flat .ensures,
+      at3 .unless3 .ensures,
+      central .eccentricities-met .ensures,
+      apart .read-eccentricities .ensures .0,
+      at2 .unless2 .ensures,
+      product .product-met .ensures,
+      sent .read-product-sent .ensures,
+      at1 .unless .ensures,
+      sides .sides-met .ensures,
+      slender .slender-met .ensures,
+      high .height-met .ensures,
+      wall .wall-height .ensures .0,
+      bottom .read-bottom .ensures .0,
+      width .shorter-side .ensures .0,
+      section .read-section .ensures .0,
     )
+    (tried (value-rules (now (section .before .before .args .sheet))) refl)
 
 pub values-refusal-spec : {M : Type 1} → statement M
 values-refusal-spec =
@@ -98,20 +141,24 @@ values-refusal-spec =
     shorter-side-requires
     read-bottom-requires
     wall-height-requires
-    sides-refusal-requires
+    add-h
+    height-met-requires
+    slender-met-requires
+    sides-met-requires
+    unless-requires
     read-product-sent-requires
-    product-refusal-requires
+    product-met-requires
+    unless-requires-2
     read-eccentricities-requires
-    eccentricities-refusal-requires
-    bottom-refusal-requires
-    strakes-refusal-requires
-    depths-refusal-requires
-    add-shape-refusal
-    shape-refusal-requires
-    first-requires
-    first-requires-2
-    first-requires-3
-    first-requires-4
-    first-requires-5
-    first-requires-6
+    eccentricities-met-requires
+    unless-requires-3
+    is-flat-requires
+    is-hopper-requires
+    unless-requires-4
+    strakes-met-requires
+    unless-requires-5
+    depths-met-requires
+    unless-requires-6
+    unless-requires-7
+    unless-requires-8
     returns)

@@ -1,0 +1,43 @@
+-- The quotient is the definition's own, and it fits a u32.
+use borrow.Author.Needs.{needs}
+use Prim.Native.Nat.{_≤_, _^_}
+use mathlib.Core.Path.{_≡_, _∙_}
+use native.Mathlib.Omega.{arith}
+use native.Mathlib.Nat.{mul-le-mul}
+use Rattle.fraction.specs.Fraction.{_⊘_}
+use Rattle.discharge.specs.Discharge.{magnified-load}
+use Rattle.discharge.proofs.Discharge.{magnified-load-range, magnified-load-divided}
+use Rattle.discharge.proofs.magnified.Statement.{statement}
+use Rattle.discharge.proofs.magnified.Tie as tie
+
+cast-quotient-up : tie.Need-cast-quotient-up
+cast-quotient-up c = search needs
+
+mul-quotient-up : tie.Need-mul-quotient-up
+mul-quotient-up c =
+    let a = c .before .args in
+    let top : a .top ≤ 2 ^ 31 = omega arith in
+    let filling : a .filling .0 ≤ 2 ^ 25 = omega arith in
+    omega (arith, mul-le-mul top filling)
+
+quotient-up-requires : tie.Need-quotient-up-requires
+quotient-up-requires c κs = search needs
+
+-- the quotient and its range
+answer : (c : tie.After-quotient-up) → let a = c .before .before .args in
+    (c .quotient-up .result ≡ magnified-load (a .top ⊘ a .bottom) (a .filling .0)) × (c .quotient-up .result ≤ 2 ^ 26)
+answer c =
+    let a = c .before .before .args in
+    let p = c .before .before .pre in
+    let e = c .quotient-up .ensures ∙ magnified-load-divided (a .top) (a .bottom) (a .filling .0) in
+    (e, omega (arith, e, magnified-load-range (a .top ⊘ a .bottom) (p .0) (a .filling .0) (p .2) (p .3)))
+
+cast-t7 : tie.Need-cast-t7
+cast-t7 c = omega (arith, answer c .1)
+
+returns : tie.Need-returns
+returns c = answer c
+
+pub magnified-spec : {M : Type 1} → statement M
+magnified-spec =
+    tie.close (tie.spec cast-quotient-up mul-quotient-up quotient-up-requires cast-t7 returns)

@@ -1,0 +1,163 @@
+-- The numbers of the loads keep what is claimed of them: each its own law, from the band of the filling pressure that it rests on, and none
+-- falls with depth.
+use Prim.Native.Nat.{ℕ, zero, suc, _+_, _*_, _≤_, _<_}
+use mathlib.Core.Path.{_≡_, refl, ap, sym, subst}
+use mathlib.Core.List.{_∷_, _++_, map}
+use native.Mathlib.Omega.{arith}
+use borrow.Author.Tests.{eq-eqb, ne-eqb}
+use lib.ListN.{getD, replicate, getD-replicate}
+use Rattle.janssen.specs.declared.Section.{Section}
+use Rattle.janssen.specs.declared.Product.{Product}
+use Rattle.janssen.specs.Section.{d-c}
+use Rattle.janssen.specs.Filling.{Kind, factors, q, P}
+use Rattle.janssen.specs.Filling.Kind.{horizontal, vertical, wall-friction}
+use Rattle.janssen.specs.Numbers.{FillingNumbers}
+use Rattle.janssen.specs.program.Pressure.{filling, wall-load, computed}
+use Rattle.janssen.specs.program.Range.{InRange, InDepth}
+use Rattle.janssen.specs.program.Prepare.{AllReach}
+use Rattle.janssen.proofs.Geometry.{d-c-positive, d-c-most}
+use Rattle.janssen.proofs.FillingLaws.{filling-band-two, filling-rises}
+use Rattle.janssen.proofs.Ready.{all-reach}
+use Rattle.janssen.proofs.WallLoadLaws.{wall-load-band}
+use Rattle.janssen.proofs.WallLoadOrder.{wall-load-rises}
+use Rattle.allowance.proofs.LowerLaws.{Filled, filled-by-band}
+use Rattle.discharge.specs.Discharge.{magnified-load, C-b}
+use Rattle.discharge.proofs.Discharge.{magnified-load-mono, patch-load-mono, magnified-load-allowance, patch-load-allowance}
+use Rattle.hopper.proofs.Hopper.{P-n-allowance, P-t-allowance}
+use Rattle.loads.specs.declared.Silo.{Silo}
+use Rattle.loads.specs.declared.Basis.{Basis}
+use Rattle.loads.specs.Load.{Load}
+use Rattle.loads.specs.Load.{OfFilling, load-depth, pressure-at, C-h, C-w, number, quarters, normal-number, friction-number, bottom-numbers}
+use Rattle.loads.specs.Load.Load.{listed-depth, p-hf, p-wf, p-vf, P-w, p-he, p-we, p-p}
+use Rattle.loads.specs.Load.OfFilling.{of-p-hf, of-p-wf, of-p-vf, of-P-w}
+use Rattle.loads.specs.Holds.{InBand, Holds, BottomHolds}
+use Rattle.loads.specs.program.Basis.{Reached, Fits, Sound}
+
+-- the two shapes of the bottom
+pub bottom-flat : (f : FillingNumbers) (c : Silo) → c .run ≡ 0 → bottom-numbers f c ≡ magnified-load C-b (number f c p-vf (c .foot)) ∷ replicate 9 0
+unfolding bottom-numbers
+bottom-flat f c e = simp (eq-eqb (c .run) 0 e)
+
+pub bottom-hopper : (f : FillingNumbers) (c : Silo) → 0 < c .run
+    → bottom-numbers f c ≡ map (normal-number f c) quarters ++ map (friction-number f c) quarters
+unfolding bottom-numbers
+bottom-hopper f c h = simp (ne-eqb (c .run) 0 (λ e. omega arith))
+
+-- the numbers of the quarters, by k
+at-quarter : (F G : ℕ → ℕ) (k : ℕ) → k ≤ 4
+    → (getD (map F quarters ++ map G quarters) k 0 ≡ F k) × (getD (map F quarters ++ map G quarters) (5 + k) 0 ≡ G k)
+at-quarter F G zero h = (refl, refl)
+at-quarter F G (suc zero) h = (refl, refl)
+at-quarter F G (suc (suc zero)) h = (refl, refl)
+at-quarter F G (suc (suc (suc zero))) h = (refl, refl)
+at-quarter F G (suc (suc (suc (suc zero)))) h = (refl, refl)
+at-quarter F G (suc (suc (suc (suc (suc k))))) h = absurd (omega arith)
+
+-- deeper below the brim is no less deep below the surface, which does not lie above the brim
+pub load-depth-rises : (c : Silo) (depth depth' : ℕ) → depth ≤ depth' → load-depth c depth ≤ load-depth c depth'
+unfolding load-depth
+load-depth-rises c depth depth' h = h
+
+pub load-depth-most : (c : Silo) (depth : ℕ) → load-depth c depth ≤ depth
+unfolding load-depth
+load-depth-most c depth = omega arith
+
+-- a load of filling in two silos with the same section and product: no smaller at a greater depth below the surface
+module _ (c c' : Silo) (same-section : c .section ≡ c' .section) (same-product : c .product ≡ c' .product) (fits : Fits c') where
+  pressure-more : (k : Kind) (u v : ℕ) → InDepth (c' .section) v → u ≤ v
+      → filling k (c .section) (c .product) u ≤ filling k (c' .section) (c' .product) v
+  pressure-more k u v d h = rw (same-section, same-product) (filling-rises k (c' .section) (c' .product) u v (fits .range) d h)
+
+  load-more : (u v : ℕ) → InDepth (c' .section) v → u ≤ v → wall-load (c .section) (c .product) u ≤ wall-load (c' .section) (c' .product) v
+  load-more u v d h = rw (same-section, same-product) (wall-load-rises (c' .section) (c' .product) u v (fits .range) d h)
+
+  pub filling-more : {l : Load} → OfFilling l → (x y : ℕ) → Reached c' y → load-depth c x ≤ load-depth c' y → number computed c l x ≤ number computed c' l y
+  filling-more of-p-hf x y d h = pressure-more horizontal _ _ d h
+  filling-more of-p-wf x y d h = pressure-more wall-friction _ _ d h
+  filling-more of-p-vf x y d h = pressure-more vertical _ _ d h
+  filling-more of-P-w x y d h = load-more _ _ d h
+
+module _ (c : Silo) (fits : Fits c) where
+  band-at : (k : Kind) (depth : ℕ) → Reached c depth → InBand k c depth (pressure-at computed c k depth)
+  band-at k depth d = filling-band-two k (c .section) (c .product) (load-depth c depth) (fits .range) d
+
+  filled-at : (k : Kind) (depth : ℕ) → Reached c depth
+      → Filled (P k (c .section) (c .product)) (q (factors k) (c .section) (c .product) (load-depth c depth)) (pressure-at computed c k depth)
+  filled-at k depth d = filled-by-band (band-at k depth d)
+
+  -- the factors: C_h is at most 2, and 2·C_w + 1 at most 4
+  C-h-proper : 0 < C-h c .bottom
+  C-h-proper = omega arith
+
+  C-h-most : C-h c .top ≤ 2 * C-h c .bottom
+  C-h-most = omega (arith, fits .factor-most)
+
+  C-w-proper : 0 < C-w c .bottom
+  C-w-proper = omega arith
+
+  C-w-most : 2 * C-w c .top + C-w c .bottom ≤ 4 * C-w c .bottom
+  C-w-most = omega arith
+
+  -- every load's number has what is claimed of it
+  pub holds : (l : Load) (depth : ℕ) → Reached c depth → Holds c l depth (number computed c l depth)
+  holds listed-depth depth d = refl
+  holds p-hf depth d = band-at horizontal depth d
+  holds p-wf depth d = band-at wall-friction depth d
+  holds p-vf depth d = band-at vertical depth d
+  holds P-w depth d = wall-load-band (c .section) (c .product) (load-depth c depth) (fits .range) d
+  holds p-he depth d = magnified-load-allowance (C-h c) C-h-proper 5 _ (omega (arith, C-h-most)) (filled-at horizontal depth d)
+  holds p-we depth d = magnified-load-allowance (C-w c) C-w-proper 4 _ C-w-most (filled-at wall-friction depth d)
+  holds p-p depth d =
+      patch-load-allowance (C-h c) C-h-proper (c .eccentricity) (d-c (c .section)) _ C-h-most
+      (d-c-positive (c .section) (c .product) (fits .range)) (fits .eccentricity-most) (filled-at horizontal depth d)
+
+  filling-down : {l : Load} → OfFilling l → (depth depth' : ℕ) → Reached c depth' → depth ≤ depth' → number computed c l depth ≤ number computed c l depth'
+  filling-down o depth depth' d h = filling-more c c refl refl fits o depth depth' d (load-depth-rises c depth depth' h)
+
+  -- no load falls with depth
+  pub rises : (l : Load) (depth depth' : ℕ) → Reached c depth' → depth ≤ depth' → number computed c l depth ≤ number computed c l depth'
+  rises listed-depth depth depth' d h = h
+  rises p-hf depth depth' d h = filling-down of-p-hf depth depth' d h
+  rises p-wf depth depth' d h = filling-down of-p-wf depth depth' d h
+  rises p-vf depth depth' d h = filling-down of-p-vf depth depth' d h
+  rises P-w depth depth' d h = filling-down of-P-w depth depth' d h
+  rises p-he depth depth' d h = magnified-load-mono (C-h c) C-h-proper (filling-down of-p-hf depth depth' d h)
+  rises p-we depth depth' d h = magnified-load-mono (C-w c) C-w-proper (filling-down of-p-wf depth depth' d h)
+  rises p-p depth depth' d h =
+      patch-load-mono (c .eccentricity) (d-c (c .section)) (d-c-positive (c .section) (c .product) (fits .range))
+      (magnified-load-mono (C-h c) C-h-proper (filling-down of-p-hf depth depth' d h))
+
+  -- and the bottom's, wherever they stand
+  pub bottom-holds : (at : ℕ → ℕ) → ((k : ℕ) → k < 10 → at k ≡ getD (bottom-numbers computed c) k 0) → BottomHolds c at
+  bottom-holds at is =
+      let x : ℕ = number computed c p-vf (c .foot) in
+      let fill = filled-at vertical (c .foot) (fits .foot-reached) in
+      let quarter = at-quarter (normal-number computed c) (friction-number computed c) in
+      record {
+        floor-holds = λ e. rw (is 0 (omega arith), bottom-flat computed c e) (magnified-load-allowance C-b (omega arith) 4 x (omega arith) fill);
+        zeros = λ e k h. rw (is (suc k) (omega arith), bottom-flat computed c e) (getD-replicate 9 k 0 0 h);
+        P-n-holds =
+            λ hr k h.
+            rw (is k (omega arith), bottom-hopper computed c hr, quarter k h .0)
+            (P-n-allowance (c .section) (c .product) (c .height) (c .run) k x (fits .range) hr h fill);
+        P-t-holds =
+            λ hr k h.
+            rw (is (5 + k) (omega arith), bottom-hopper computed c hr, quarter k h .1)
+            (P-t-allowance (c .section) (c .product) (c .height) (c .run) k x (fits .range) hr h fill);
+      }
+
+-- the basis of a silo that fits: its curves reach every depth, and d_c leaves room for the patch
+module _ (b : Basis) (sound : Sound b) where
+  pub prepared-reaches : (depth : ℕ) → Reached (b .silo) depth → AllReach (b .prepared) (load-depth (b .silo) depth)
+  prepared-reaches depth d =
+      subst (λ (x : Basis). AllReach (x .prepared) (load-depth (b .silo) depth)) (sym (sound .right))
+      (all-reach (b .silo .section) (b .silo .product) (load-depth (b .silo) depth) (sound .fits .range) d)
+
+  pub shorter-fits : (0 < b .shorter) × (b .shorter ≤ 50000) × (4 * b .silo .eccentricity ≤ b .shorter)
+  shorter-fits =
+      let e : b .shorter ≡ d-c (b .silo .section) = ap (λ (x : Basis). x .shorter) (sound .right) in
+      let i = sound .fits .range in (
+        omega (arith, d-c-positive (b .silo .section) (b .silo .product) i),
+        omega (arith, d-c-most (b .silo .section) (b .silo .product) i),
+        omega (arith, sound .fits .eccentricity-most),
+      )

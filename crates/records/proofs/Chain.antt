@@ -1,0 +1,117 @@
+-- Chains of rules: what the first rule that is not met tells of those before it and behind it.
+--     met            no refusal: every rule is met
+--     skipped        no refusal in the first part: the refusal is that of the second
+--     stopped        a refusal in the first part is the refusal of the whole
+--     apart          no refusal in the whole: none in each part
+--     tried          rules tried one after the other, with the refusal so far, give the first that is not met
+--     among          a refusal is a rule's number
+-- A refusal is told from 0 by its number, so that the numbers have to be positive (`numbered`): a test that computes for every chain.
+use Prim.Native.Nat.{ℕ, zero, suc, _<_}
+use mathlib.Core.Bool.{Bool, true, false, cond, _&&_, _||_, false≢true}
+use mathlib.Core.List.{List, [], _∷_, _++_}
+use mathlib.Core.Path.{_≡_, refl}
+use native.Mathlib.Omega.{arith}
+use borrow.Author.Tests.{eq-eqb}
+use lib.Dec.{eqb}
+use Rattle.records.specs.Rules.{Rule, _unless_, first-unmet}
+use Rattle.records.specs.program.Chain.{then}
+use Rattle.records.proofs.Tests.{absurd, both-true, either-right}
+
+abbrev positive : ℕ → Bool
+positive zero = false
+positive (suc n) = true
+
+abbrev pub numbered : List Rule → Bool
+numbered [] = true
+numbered (r ∷ l) = positive (r .number) && numbered l
+
+-- whether rule i of a chain is met
+abbrev pub met-at : List Rule → ℕ → Bool
+met-at [] i = true
+met-at (r ∷ l) zero = r .met
+met-at (r ∷ l) (suc i) = met-at l i
+
+-- the first rule of a chain without refusal
+first-met : (n : ℕ) (b : Bool) (l : List Rule) → positive n ≡ true → first-unmet (n unless b ∷ l) ≡ 0 → (b ≡ true) × (first-unmet l ≡ 0)
+unfolding first-unmet
+first-met n true l p h = (refl, h)
+first-met zero false l p h = absurd (false≢true p)
+first-met (suc n) false l p h = absurd (omega arith)
+
+rule-apart : (r : Rule) (l : List Rule) → numbered (r ∷ l) ≡ true → first-unmet (r ∷ l) ≡ 0 → (r .met ≡ true) × (numbered l ≡ true) × (first-unmet l ≡ 0)
+rule-apart r l p h =
+    let q = both-true (positive (r .number)) (numbered l) p in
+    let m = first-met (r .number) (r .met) l (q .0) h in
+    (m .0, q .1, m .1)
+
+pub met : (l : List Rule) → numbered l ≡ true → first-unmet l ≡ 0 → (i : ℕ) → met-at l i ≡ true
+met [] p h i = refl
+met (r ∷ l) p h zero = rule-apart r l p h .0
+met (r ∷ l) p h (suc i) = let q = rule-apart r l p h in met l (q .1) (q .2) i
+
+module _ (b : List Rule) where
+  pub skipped : (a : List Rule) → numbered a ≡ true → first-unmet a ≡ 0 → first-unmet (a ++ b) ≡ first-unmet b
+  unfolding first-unmet
+  skipped [] p h = refl
+  skipped (r ∷ a) p h = let q = rule-apart r a p h in rw (q .0) (skipped a (q .1) (q .2))
+
+  stopped-at : (m : Bool) (n : ℕ) (a : List Rule) → ((first-unmet a ≡ 0 → ⊥) → first-unmet (a ++ b) ≡ first-unmet a)
+      → (cond m (first-unmet a) n ≡ 0 → ⊥) → cond m (first-unmet (a ++ b)) n ≡ cond m (first-unmet a) n
+  stopped-at true n a rest h = rest h
+  stopped-at false n a rest h = refl
+
+  pub stopped : (a : List Rule) → (first-unmet a ≡ 0 → ⊥) → first-unmet (a ++ b) ≡ first-unmet a
+  unfolding first-unmet
+  stopped [] h = absurd (h refl)
+  stopped (r ∷ a) h = stopped-at (r .met) (r .number) a (stopped a) h
+
+  pub apart : (a : List Rule) → numbered a ≡ true → first-unmet (a ++ b) ≡ 0 → (first-unmet a ≡ 0) × (first-unmet b ≡ 0)
+  unfolding first-unmet
+  apart [] p h = (refl, h)
+  apart (r ∷ a) p h =
+      let q = both-true (positive (r .number)) (numbered a) p in
+      let m = first-met (r .number) (r .met) (a ++ b) (q .0) h in
+      let rest = apart a (q .1) (m .1) in
+      (rw (m .0) (rest .0), rest .1)
+
+pub then-refused : (n : ℕ) (r : Rule) → (n ≡ 0 → ⊥) → then n r ≡ n
+unfolding then
+then-refused zero r h = absurd (h refl)
+then-refused (suc n) r h = refl
+
+-- the rules of a list, tried one after the other
+abbrev pub thens : ℕ → List Rule → ℕ
+thens n [] = n
+thens n (r ∷ l) = thens (then n r) l
+
+refused : (n : ℕ) (l : List Rule) → thens (suc n) l ≡ suc n
+unfolding then
+refused n [] = refl
+refused n (r ∷ l) = refused n l
+
+tried-next : (n : ℕ) (m : Bool) (l : List Rule) → positive n ≡ true → thens 0 l ≡ first-unmet l → thens (then 0 (n unless m)) l ≡ first-unmet (n unless m ∷ l)
+unfolding then first-unmet
+tried-next n true l p h = h
+tried-next zero false l p h = absurd (false≢true p)
+tried-next (suc n) false l p h = refused n l
+
+pub tried : (l : List Rule) → numbered l ≡ true → thens 0 l ≡ first-unmet l
+unfolding first-unmet
+tried [] p = refl
+tried (r ∷ l) p =
+    let q = both-true (positive (r .number)) (numbered l) p in
+    tried-next (r .number) (r .met) l (q .0) (tried l (q .1))
+
+-- whether a number is that of a rule
+abbrev pub has : List Rule → ℕ → Bool
+has [] n = false
+has (r ∷ l) n = eqb (r .number) n || has l n
+
+among-next : (m : Bool) (k n : ℕ) (l : List Rule) → (first-unmet l ≡ n → has l n ≡ true) → cond m (first-unmet l) k ≡ n → (eqb k n || has l n) ≡ true
+among-next true k n l rest h = either-right (eqb k n) (has l n) (rest h)
+among-next false k n l rest h = simp (eq-eqb k n h)
+
+pub among : (l : List Rule) (n : ℕ) → 0 < n → first-unmet l ≡ n → has l n ≡ true
+unfolding first-unmet
+among [] n p h = absurd (omega arith)
+among (r ∷ l) n p h = among-next (r .met) (r .number) n l (among l n p) h
