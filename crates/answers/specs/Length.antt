@@ -1,4 +1,4 @@
--- The length call: how many numbers the answer list of a sheet has, or the first refusal of the sheet's rules. Document 01, "Answer list" and "Who can be refused".
+-- The length call: how many numbers the answer list of a sheet has, or its first refusal. Document 01, "Answer list", "Who can be refused".
 use Prim.Native.Nat.{ℕ, _+_}
 use mathlib.Core.Bool.{cond}
 use mathlib.Core.List.{List}

@@ -35,6 +35,7 @@ pub struct Basis {
     pub shorter: u64,
 }
 
+// What is worked out once, for a silo inside its ranges.
 pub fn basis_of(silo: Silo) -> Basis
     requires { ⌜ InRange (silo .section) (silo .product) ⌝ }
     ensures { λ r. ⌜ r ≡ basis-for silo ⌝ }

@@ -47,7 +47,7 @@ payload s k = place s k + 4
 abbrev pub due : ℕ → ℕ → Bool
 due k t = eqb t (k + 2) || (eqb k 0 && eqb t 1)
 
--- by kind, 1 to 7: a payload is of step, 2 step, .. up to most bytes; 1 to 24 strakes of 2, 1 to 200 depths of 4
+-- by kind, 1 to 7 (the entry before them is no kind): a payload is of step, 2 step, .. up to most bytes; 1 to 24 strakes of 2, 1 to 200 depths of 4
 abbrev pub step-of : ℕ → ℕ
 step-of t = getD (1 ∷ 4 ∷ 8 ∷ 10 ∷ 8 ∷ 8 ∷ 2 ∷ 4 ∷ []) t 0
 

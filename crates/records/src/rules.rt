@@ -24,7 +24,7 @@ fn kind_due(k: usize, kind: u64) -> bool
     (kind == k as u64 + 2) | ((k == 0) & (kind == 1))
 }
 
-// Bytes of a payload by kind, 1 to 7: STEP, 2 STEP, .. up to MOST.
+// Bytes of a payload by kind, 1 to 7: STEP, 2 STEP, .. up to MOST. No kind is 0; its step is 1, so that nothing is divided by 0.
 const STEP: [u64; 8] = [1, 4, 8, 10, 8, 8, 2, 4];
 
 const MOST: [u64; 8] = [0, 4, 8, 10, 8, 8, 48, 800];
