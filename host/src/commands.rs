@@ -1,9 +1,13 @@
 //! The commands, from a file's bytes to what is printed and the exit status.
 
+use crate::content::Content;
 use crate::description::Description;
+use crate::files::Kind;
 use crate::library::{self, Loads, Refusal};
-use crate::source::{self, Failure, Source};
-use crate::{csv, draw, json, table, text};
+use crate::report::PROGRAM;
+use crate::source::{self, Failure, Source, Unread};
+use crate::units::Units;
+use crate::{catalogue, csv, draw, json, table, text};
 
 /// What a command writes to its output and to standard error, and its exit status.
 #[derive(Debug, Default)]
@@ -20,7 +24,23 @@ pub const BAD_USE: u8 = 2;
 pub enum Format {
     Table,
     Csv,
+    /// For spreadsheets that write decimals with a comma.
+    CsvSemicolon,
     Json,
+}
+
+/// The kind of file that a command's output is.
+pub fn kind(command: &str, format: Format) -> Kind {
+    match (command, format) {
+        ("draw", _) => Kind::Drawing,
+        ("sheet", _) => Kind::Sheet,
+        ("explain", _) => Kind::Text,
+        ("catalogue", Format::Csv | Format::CsvSemicolon) => Kind::CatalogueCsv,
+        ("catalogue", _) => Kind::Catalogue,
+        (_, Format::Table) => Kind::Table,
+        (_, Format::Csv | Format::CsvSemicolon) => Kind::Csv,
+        (_, Format::Json) => Kind::Json,
+    }
 }
 
 pub fn bad_use(messages: String) -> Outcome {
@@ -37,11 +57,31 @@ fn done(output: impl Into<Vec<u8>>) -> Outcome {
 
 fn failed(file: &str, failure: &Failure) -> Outcome {
     match failure {
-        Failure::Text(errors) => bad_use(source::error_lines(file, errors)),
+        Failure::Unread(unread) => bad_use(unread.lines(file)),
         Failure::Refused(refused) => {
             Outcome { status: REFUSED, messages: refused.lines(file), ..Outcome::default() }
         }
     }
+}
+
+/// A file that cannot be read, and why; with JSON an object of the output.
+pub fn unreadable(file: &str, why: &str, format: Format) -> Outcome {
+    match format {
+        Format::Json => {
+            let unread = Unread::file(format!("{file}: {why}"));
+            Outcome { status: BAD_USE, ..done(unread.json()) }
+        }
+        _ => bad_use(format!("silo: {file}: {why}\n")),
+    }
+}
+
+/// Table 7.1; it has no JSON.
+pub fn catalogue(format: Format) -> Outcome {
+    done(match format {
+        Format::Csv => catalogue::csv(csv::COMMA),
+        Format::CsvSemicolon => catalogue::csv(csv::SEMICOLON),
+        Format::Table | Format::Json => format!("{}\n{PROGRAM}\n", catalogue::table()),
+    })
 }
 
 /// The silo of a file with its loads.
@@ -53,16 +93,23 @@ fn calculated(bytes: &[u8]) -> Result<(Source, Loads), Failure> {
     }
 }
 
-/// With JSON a refusal is an object of the output.
-pub fn loads(file: &str, bytes: &[u8], format: Format) -> Outcome {
+/// With JSON a refusal, or what is wrong with a text, is an object of the output.
+pub fn loads(file: &str, bytes: &[u8], format: Format, units: Units) -> Outcome {
     match calculated(bytes) {
-        Ok((Source { silo, .. }, loads)) => done(match format {
-            Format::Table => table::loads(file, &silo, &loads),
-            Format::Csv => csv::loads(&silo, &loads),
-            Format::Json => json::loads(&silo, &loads),
-        }),
+        Ok((source, loads)) => {
+            let report = source.report(file, &loads, units);
+            done(match format {
+                Format::Table => table::page(&report),
+                Format::Csv => csv::page(&report, csv::COMMA),
+                Format::CsvSemicolon => csv::page(&report, csv::SEMICOLON),
+                Format::Json => json::page(&report),
+            })
+        }
         Err(Failure::Refused(refused)) if format == Format::Json => {
             Outcome { status: REFUSED, ..done(refused.json()) }
+        }
+        Err(Failure::Unread(unread)) if format == Format::Json => {
+            Outcome { status: BAD_USE, ..done(unread.json()) }
         }
         Err(failure) => failed(file, &failure),
     }
@@ -70,7 +117,7 @@ pub fn loads(file: &str, bytes: &[u8], format: Format) -> Outcome {
 
 /// The sheet of a text. It is written even where the library refuses it.
 pub fn sheet(file: &str, bytes: &[u8]) -> Outcome {
-    if source::is_sheet(bytes) {
+    if let Content::Sheet = Content::of(bytes) {
         return bad_use(format!(
             "{file}: a sheet of bytes, or empty; silo sheet reads a silo's text\n"
         ));
@@ -81,7 +128,7 @@ pub fn sheet(file: &str, bytes: &[u8]) -> Outcome {
             Ok(_) => done(source.sheet),
             Err(refusal) => {
                 let mut outcome = failed(file, &source.refused(refusal));
-                outcome.messages += "the sheet is written as the text has it\n";
+                outcome.messages += "the sheet has the numbers as the text has them\n";
                 Outcome { output: source.sheet, ..outcome }
             }
         },
@@ -90,21 +137,25 @@ pub fn sheet(file: &str, bytes: &[u8]) -> Outcome {
 
 /// The text of a sheet of bytes.
 pub fn explain(file: &str, bytes: &[u8]) -> Outcome {
-    if !source::is_sheet(bytes) {
-        return bad_use(format!("{file}: text; silo explain reads a sheet of bytes\n"));
-    }
-    match source::open_sheet(bytes) {
+    let opened = match Content::of(bytes) {
+        Content::Sheet => source::open_sheet(bytes),
+        Content::Foreign(what) => Err(Failure::foreign(what)),
+        Content::Text => {
+            return bad_use(format!("{file}: text; silo explain reads a sheet of bytes\n"))
+        }
+    };
+    match opened {
         Ok(source) => done(text::write(&source.silo)),
         Err(failure) => failed(file, &failure),
     }
 }
 
-pub fn draw(file: &str, bytes: &[u8]) -> Outcome {
+pub fn draw(file: &str, bytes: &[u8], units: Units) -> Outcome {
     let drawn = calculated(bytes).and_then(|(source, loads)| {
         let silo = with_more_depths(&source.silo);
         let curves = Loads::of(&silo.to_bytes(), silo.strakes.len());
         let curves = curves.map_err(|refusal: Refusal| source.refused(refusal))?;
-        Ok(draw::page(file, &source.silo, &loads, &curves))
+        Ok(draw::page(&source.report(file, &loads, units), &curves))
     });
     drawn.map(done).unwrap_or_else(|failure| failed(file, &failure))
 }

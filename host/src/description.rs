@@ -52,7 +52,18 @@ impl Section {
     }
 }
 
+/// C0 that the library reads in place of 0, hundredths.
+const BLANK_FACTOR: u16 = 135;
+
 impl Product {
+    /// C0 as it acts, hundredths.
+    pub fn factor_used(&self) -> u16 {
+        match self.factor {
+            0 => BLANK_FACTOR,
+            factor => factor,
+        }
+    }
+
     /// A row of table 7.1 from the library.
     pub fn from_catalogue(row: u32, wall: u32) -> Result<Product, Refusal> {
         let mut record = [0; PRODUCT_RECORD];
@@ -69,6 +80,26 @@ impl Product {
 impl Description {
     pub fn is_flat(&self) -> bool {
         self.hopper_height == 0 && self.hopper_run == 0
+    }
+
+    /// α, the hopper's slope from the horizontal, radians.
+    pub fn slope(&self) -> f64 {
+        f64::from(self.hopper_height).atan2(f64::from(self.hopper_run))
+    }
+
+    /// The same in degrees, to one decimal.
+    pub fn degrees(&self) -> String {
+        format!("{:.1}", self.slope().to_degrees())
+    }
+
+    /// The outlet's width across the shorter side, mm; 0 where the run leaves none.
+    pub fn outlet_width(&self) -> u32 {
+        self.section.shorter_side().saturating_sub(self.hopper_run.saturating_mul(2))
+    }
+
+    /// The outlet's eccentricity lies beyond the edge of the hopper's outlet: e_o > d_c/2 - r.
+    pub fn outlet_is_passed(&self) -> bool {
+        !self.is_flat() && 2 * u64::from(self.outlet_eccentricity) > self.outlet_width().into()
     }
 
     /// V, mm

@@ -1,53 +1,93 @@
-//! The drawing: the silo to scale at the left, values at each strake's edge, pressures over depth at the right. Positions are
-//! worked out in floating point; every value that is written comes from the sheet or from the library.
+//! The drawing: the silo to scale at the left, values at each strake's edge and on the bottom in
+//! the middle, pressures over depth at the right; notes and title block at the foot. Positions are
+//! worked out in floating point; every value that is written comes from the sheet or from the
+//! library.
 
+mod block;
 mod chart;
+mod hopper;
 mod layout;
+mod shown;
 mod silo;
 mod svg;
 mod values;
+mod wrap;
 
 use crate::description::{Description, Section};
-use crate::library::Loads;
-use crate::table;
-use layout::{grouped, Layout};
+use crate::library::{Loads, P_W};
+use crate::report::Report;
+use layout::{Layout, LEFT, TABLE, TOP};
+use shown::{degrees, length, pressure};
 use std::path::Path;
-use svg::{Svg, HEIGHT};
+use svg::{Svg, NOTE, TITLE};
 
-/// `loads` are those of the sheet, `curves` those of the same silo at depths near to each other.
-pub fn page(file: &str, silo: &Description, loads: &Loads, curves: &Loads) -> String {
+/// From the title's last line down to the brim: heads of table and chart, and the silo's width.
+const HEADS: f64 = 66.0;
+
+/// `curves` are the loads of the same silo at depths near to each other.
+pub fn page(report: &Report, curves: &Loads) -> String {
     let mut svg = Svg::default();
-    let layout = Layout::of(silo);
-    let name = Path::new(file).file_stem().map(|stem| stem.to_string_lossy().into_owned());
+    let name = Path::new(report.file).file_stem().map(|stem| stem.to_string_lossy().into_owned());
     let name = name.unwrap_or_else(|| "silo".to_string());
-    svg.text("start title", (40.0, 44.0), &name);
-    svg.text("start note", (40.0, 66.0), &table::product(silo));
-    svg.text("start note", (40.0, 83.0), &sizes(silo));
-    values::draw(&mut svg, silo, &layout, curves);
-    chart::draw(&mut svg, silo, &layout, curves);
-    silo::draw(&mut svg, silo, &layout);
-    values::bottom(&mut svg, silo, &layout, loads);
-    let mut foot =
-        "Wall loads by ENV 1991-4, rounded up; from the proved library. Silo to scale".to_string();
-    foot += if layout.is_aligned() { "." } else { "; the chart has a depth scale of its own." };
-    svg.text("start small", (40.0, HEIGHT - 12.0), &foot);
+    let brim = title(&mut svg, report, curves, &name) + HEADS;
+    let lowest = block::draw(&mut svg, report) - 10.0;
+    let layout = Layout::of(report.silo, brim, lowest);
+    silo::draw(&mut svg, report.silo, &layout);
+    values::draw(&mut svg, report, &layout, curves);
+    chart::draw(&mut svg, report, &layout, curves);
     svg.page(&name)
 }
 
-fn sizes(silo: &Description) -> String {
-    let section = match silo.section {
-        Section::Circle(d) => format!("Circle d {} mm", grouped(d.into())),
-        Section::Rectangle(a, b) => {
-            format!(
-                "Rectangle a {} mm, b {} mm, seen across the shorter side",
-                grouped(a.into()),
-                grouped(b.into())
-            )
+/// The name, product and sizes; the last line's height. A name that is too long for a line stands
+/// in the title block alone.
+fn title(svg: &mut Svg, report: &Report, curves: &Loads, name: &str) -> f64 {
+    let most = TABLE.1 - LEFT;
+    // bold letters are up to a fifth wider
+    if 1.2 * wrap::width(name, TITLE) <= most {
+        svg.plain("start title", (LEFT, TOP + 15.0), name);
+    }
+    let mut y = TOP + 17.0;
+    let mut sizes = sizes(report.silo);
+    sizes.extend(wall_load(report, curves));
+    let sizes = sizes.iter().map(|part| part.replace(' ', "\u{a0}")).collect::<Vec<String>>();
+    for text in [report.product(), sizes.join(", ")] {
+        for line in wrap::lines(&text, NOTE, most) {
+            y += 14.5;
+            svg.text("start note", (LEFT, y), &line);
         }
+    }
+    y
+}
+
+/// Each size with its name in one line.
+fn sizes(silo: &Description) -> Vec<String> {
+    let mut parts = match silo.section {
+        Section::Circle(d) => vec![format!("Circle d {}", length(d))],
+        Section::Rectangle(a, b) => vec![
+            format!("Rectangle a {}", length(a)),
+            format!("b {}", length(b)),
+            "seen across the shorter side".to_string(),
+        ],
     };
-    let bottom = match silo.is_flat() {
-        true => "flat floor".to_string(),
-        false => format!("hopper run r {} mm", grouped(silo.hopper_run.into())),
-    };
-    format!("{section}; {bottom}; height h = V + H = {} mm", grouped(silo.height()))
+    match silo.is_flat() {
+        true => parts.push("flat floor".to_string()),
+        false => parts.extend([
+            format!("hopper H {}", length(silo.hopper_height)),
+            format!("run r {}", length(silo.hopper_run)),
+            degrees(silo),
+        ]),
+    }
+    parts.extend([
+        format!("height h = V + H = {}", length(silo.height())),
+        format!("e_i {}", length(silo.filling_eccentricity)),
+        format!("e_o {}", length(silo.outlet_eccentricity)),
+    ]);
+    parts
+}
+
+/// What the wall carries down at its foot.
+fn wall_load(report: &Report, curves: &Loads) -> Option<String> {
+    let foot = curves.rows().last()?;
+    let load = pressure(report.units, foot[P_W]);
+    Some(format!("P_w at the wall's foot {load} {}", report.units.per_metre()))
 }

@@ -28,10 +28,10 @@ fn lengths(kind: u16) -> (fn(usize) -> bool, &'static str) {
 /// What is wrong with the records of a sheet that the library has refused for its form.
 pub fn fault(sheet: &[u8]) -> Option<String> {
     if sheet.is_empty() {
-        return Some("the sheet is empty".to_string());
+        return Some("the file is empty".to_string());
     }
     if sheet.len() > 1024 {
-        return Some(format!("{} bytes; a sheet has at most 1,024", sheet.len()));
+        return Some(format!("{} bytes; a sheet has at most 1024", sheet.len()));
     }
     let mut at = 0;
     for (i, (name, kinds)) in RECORDS.iter().enumerate() {
@@ -79,8 +79,7 @@ pub fn position(silo: &Description, field: Field) -> String {
         (Field::Strake(i), _) => (4, 2 * i),
         (Field::Depth(i), _) => (5, 4 * i),
         (Field::SideB, _) => (0, 4),
-        (_, Name::Diameter | Name::Sides) => (0, 0),
-        (_, Name::Product | Name::Wall | Name::Weight) => (1, 0),
+        (_, Name::Weight) => (1, 0),
         (_, Name::Ratio) => (1, 4),
         (_, Name::Friction) => (1, 6),
         (_, Name::Factor) => (1, 8),
@@ -90,6 +89,8 @@ pub fn position(silo: &Description, field: Field) -> String {
         (_, Name::HopperRun) => (3, 4),
         (_, Name::Strakes) => (4, 0),
         (_, Name::Depths) => (5, 0),
+        // the section; a sheet has no other names
+        _ => (0, 0),
     };
     let byte = start(record) + offset;
     format!("byte {byte}, record {} ({})", record + 1, RECORDS[record].0)

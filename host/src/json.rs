@@ -1,8 +1,8 @@
 //! The loads as JSON.
 
-use crate::description::{Description, Section};
-use crate::library::Loads;
-use crate::table::COLUMNS;
+use crate::description::Section;
+use crate::report::{Report, PROGRAM};
+use crate::units::Units;
 
 pub fn string(text: &str) -> String {
     let mut quoted = String::from("\"");
@@ -41,39 +41,52 @@ fn numbers<T: ToString>(values: &[T]) -> String {
     format!("[{}]", values.iter().map(T::to_string).collect::<Vec<String>>().join(", "))
 }
 
-pub fn loads(silo: &Description, loads: &Loads) -> String {
-    let units = COLUMNS.map(|(name, unit)| (name, string(unit)));
+pub fn page(report: &Report) -> String {
+    let Report { silo, loads, units, .. } = report;
+    let columns = report.columns();
     let rows = loads.rows().map(|row| {
-        let fields: Vec<(&str, String)> =
-            COLUMNS.iter().zip(row).map(|((name, _), load)| (*name, load.to_string())).collect();
-        object(&fields)
+        let names = columns.iter().map(|(name, _)| *name);
+        object(&names.zip(report.row(row)).collect::<Vec<(&str, String)>>())
     });
     let bottom = match silo.is_flat() {
-        true => ("floor", loads.floor().to_string()),
-        false => (
-            "hopper",
-            lines(loads.hopper().map(|(k, normal, tangential)| {
-                let [k, normal, tangential] =
-                    [k.to_string(), normal.to_string(), tangential.to_string()];
-                object(&[("k", k), ("P_n", normal), ("P_t", tangential)])
-            })),
-        ),
+        true => ("floor", units.show(loads.floor())),
+        false => ("hopper", lines(loads.hopper().map(|quarter| object(&slope(quarter, *units))))),
     };
     let strakes = silo.edges().zip(loads.strakes()).map(|((height, edge), load)| {
-        let [height, edge, load] = [height.to_string(), edge.to_string(), load.to_string()];
-        object(&[("height", height), ("lower_edge", edge), ("p_he", load)])
+        let [height, edge] = [u64::from(height), edge].map(|length| length.to_string());
+        object(&[("height", height), ("lower_edge", edge), ("p_he", units.show(*load))])
     });
+    let labels = report.labels.iter().map(|(name, text)| (*name, string(text)));
+    let notes = report.notes();
     document(&[
-        ("silo", description(silo)),
-        ("units", object(&units)),
+        ("program", string(PROGRAM)),
+        ("file", string(report.file)),
+        ("labels", object(&labels.collect::<Vec<(&str, String)>>())),
+        ("silo", description(report)),
+        ("units", object(&units_of(report))),
         ("depths", lines(rows)),
         bottom,
         ("strakes", lines(strakes)),
+        ("notes", lines(notes.iter().map(|note| string(note)))),
     ])
 }
 
+/// The unit of each number behind the description.
+fn units_of(report: &Report) -> Vec<(&'static str, String)> {
+    let pressure = report.units.pressure();
+    let more = ["floor", "P_n", "P_t"].map(|name| (name, pressure));
+    let lengths = ["height", "lower_edge"].map(|name| (name, "mm"));
+    let all = report.columns().into_iter().chain(more).chain(lengths);
+    all.map(|(name, unit)| (name, string(unit))).collect()
+}
+
+fn slope((k, normal, tangential): (usize, u32, u32), units: Units) -> [(&'static str, String); 3] {
+    [("k", k.to_string()), ("P_n", units.show(normal)), ("P_t", units.show(tangential))]
+}
+
 /// The sheet's numbers: mm, N/m³, hundredths.
-fn description(silo: &Description) -> String {
+fn description(report: &Report) -> String {
+    let silo = report.silo;
     let product = &silo.product;
     let section = match silo.section {
         Section::Circle(d) => ("diameter_mm", d.to_string()),
@@ -81,10 +94,12 @@ fn description(silo: &Description) -> String {
     };
     object(&[
         section,
+        ("product", string(&report.origin.shown(product))),
         ("weight_n_per_m3", product.weight.to_string()),
         ("ratio_hundredths", product.ratio.to_string()),
         ("friction_hundredths", product.friction.to_string()),
         ("factor_hundredths", product.factor.to_string()),
+        ("factor_used_hundredths", product.factor_used().to_string()),
         ("filling_eccentricity_mm", silo.filling_eccentricity.to_string()),
         ("outlet_eccentricity_mm", silo.outlet_eccentricity.to_string()),
         ("hopper_height_mm", silo.hopper_height.to_string()),

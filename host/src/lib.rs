@@ -3,14 +3,18 @@
 pub mod catalogue;
 pub mod commands;
 pub mod description;
+pub mod draw;
+pub mod files;
 pub mod library;
 pub mod name;
 pub mod number;
 pub mod place;
+pub mod report;
 pub mod text;
+pub mod units;
 
+mod content;
 mod csv;
-mod draw;
 mod form;
 mod json;
 mod source;

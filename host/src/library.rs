@@ -6,18 +6,18 @@ pub struct Refusal(pub u32);
 
 /// What refusals 1, 2, .. mean.
 const MEANINGS: [&str; 16] = [
-    "the sheet is over 1,024 bytes",
+    "the sheet is over 1024 bytes",
     "a record is cut short",
     "a record's kind is not the one due",
     "a record's length is not one that its kind allows (1 to 24 strakes, 1 to 200 depths)",
     "bytes are left over after the last record",
-    "a diameter or side is outside 500 to 50,000 mm",
-    "the product is outside its limits: weight 1,000 to 30,000 N/m3, ratio Ks 0.20 to 1.00, friction mu 0.10 to 1.00, \
+    "a diameter or side is outside 500 to 50000 mm",
+    "the product is outside its limits: weight 1000 to 30000 N/m3, ratio Ks 0.20 to 1.00, friction mu 0.10 to 1.00, \
      factor C0 1.00 to 2.00 or 0",
     "an eccentricity is over a quarter of the diameter or shorter side",
     "the bottom is neither flat nor a hopper of over 20 degrees with a run of at least 1 mm and under half the diameter \
-     or shorter side, and a height of at most 25,000 mm",
-    "a strake is outside 200 to 3,000 mm",
+     or shorter side, and a height of at most 25000 mm",
+    "a strake is outside 200 to 3000 mm",
     "a depth is below the wall's foot or not greater than the one before",
     "too slender: wall and hopper are 10 or more times as high as the diameter or shorter side",
     "squat: wall and hopper are less than 1.5 times as high as the diameter or shorter side",
@@ -103,6 +103,8 @@ pub fn governing<'a>(first: &'a [u32], second: &'a [u32]) -> &'a [u32] {
 
 /// Numbers of a depth's row: z (mm), p_hf, p_wf, p_vf (Pa), P_w (N/m), p_he, p_we, p_p (Pa).
 pub const ROW: usize = 8;
+/// The place of P_w in a row.
+pub const P_W: usize = 4;
 /// Numbers of the bottom: floor and nine zeros, or P_n and P_t at k = 0..4 (Pa).
 pub const BOTTOM: usize = 10;
 

@@ -15,15 +15,25 @@ pub enum Name {
     Floor,
     HopperHeight,
     HopperRun,
+    HopperAngle,
+    OutletWidth,
     Strakes,
     Depths,
+    Project,
+    Customer,
+    Place,
+    Author,
+    Date,
+    Revision,
+    Note,
 }
 
-/// A name, ENV's symbol for it where it has one, a line that shows its use, and the library's limits.
+/// A name, other spellings of it, a line that shows its use, and the library's limits.
 struct Row {
     name: Name,
     word: &'static str,
-    symbol: &'static str,
+    /// ENV's symbol and common words, as `plain` has them; one letter is taken as it stands.
+    others: &'static [&'static str],
     example: &'static str,
     limits: &'static str,
 }
@@ -31,60 +41,121 @@ struct Row {
 const fn row(
     name: Name,
     word: &'static str,
-    symbol: &'static str,
+    others: &'static [&'static str],
     example: &'static str,
     limits: &'static str,
 ) -> Row {
-    Row { name, word, symbol, example, limits }
+    Row { name, word, others, example, limits }
 }
 
-const SIDE: &str = "500 to 50,000 mm";
+const SIDE: &str = "500 to 50000 mm";
 const ECCENTRICITY: &str = "at most a quarter of the diameter or shorter side";
 
-/// In the order of `Name`.
-const NAMES: [Row; 15] = [
-    row(Name::Diameter, "diameter", "d", "diameter = 5000 mm", SIDE),
-    row(Name::Sides, "sides", "", "sides = 4000 x 6000 mm", SIDE),
-    row(Name::Product, "product", "", "product = wheat", ""),
-    row(Name::Wall, "wall", "", "wall = steel", ""),
-    row(Name::Weight, "weight", "gamma", "weight = 9.0 kN/m3", "1,000 to 30,000 N/m3"),
-    row(Name::Ratio, "ratio", "Ks", "ratio = 0.55", "0.20 to 1.00"),
-    row(Name::Friction, "friction", "mu", "friction = 0.30", "0.10 to 1.00"),
-    row(Name::Factor, "factor", "C0", "factor = 1.30", "1.00 to 2.00, or blank"),
+/// In the order of `Name`: the sheet's numbers, then what a text says of the order.
+const NAMES: [Row; 24] = [
+    row(Name::Diameter, "diameter", &["d", "D", "inside diameter"], "diameter = 5000 mm", SIDE),
+    row(Name::Sides, "sides", &["a x b"], "sides = 4000 x 6000 mm", "500 to 50000 mm each"),
+    row(Name::Product, "product", &["grain"], "product = wheat", ""),
+    row(Name::Wall, "wall", &[], "wall = steel", ""),
+    row(
+        Name::Weight,
+        "weight",
+        &["γ", "gamma", "unit weight", "density"],
+        "weight = 9.0 kN/m3",
+        "1000 to 30000 N/m3",
+    ),
+    row(Name::Ratio, "ratio", &["ks", "k s", "K"], "ratio = 0.55", "0.20 to 1.00"),
+    row(
+        Name::Friction,
+        "friction",
+        &["μ", "µ", "mu", "wall friction"],
+        "friction = 0.30",
+        "0.10 to 1.00",
+    ),
+    row(
+        Name::Factor,
+        "factor",
+        &["c0", "c 0", "c₀", "co", "c o", "discharge factor"],
+        "factor = 1.30",
+        "1.00 to 2.00, or blank",
+    ),
     row(
         Name::FillingEccentricity,
         "filling eccentricity",
-        "e_i",
+        &["e i", "ei", "eᵢ"],
         "filling eccentricity = 0 mm",
         ECCENTRICITY,
     ),
     row(
         Name::OutletEccentricity,
         "outlet eccentricity",
-        "e_o",
+        &["e o", "eo", "eₒ"],
         "outlet eccentricity = 0 mm",
         ECCENTRICITY,
     ),
-    row(Name::Floor, "floor", "", "floor = flat", ""),
-    row(Name::HopperHeight, "hopper height", "H", "hopper height = 3000 mm", "at most 25,000 mm"),
+    row(Name::Floor, "floor", &[], "floor = flat", ""),
+    row(Name::HopperHeight, "hopper height", &["H"], "hopper height = 3000 mm", "at most 25000 mm"),
     row(
         Name::HopperRun,
         "hopper run",
-        "r",
+        &["r"],
         "hopper run = 1700 mm",
         "under half the diameter or shorter side",
     ),
     row(
+        Name::HopperAngle,
+        "hopper angle",
+        &["α", "alpha"],
+        "hopper angle = 45 deg",
+        "over 20 and under 90 degrees from the horizontal",
+    ),
+    row(
+        Name::OutletWidth,
+        "outlet width",
+        &["outlet diameter"],
+        "outlet width = 600 mm",
+        "over 0 and under the diameter or shorter side",
+    ),
+    row(
         Name::Strakes,
         "strakes",
-        "",
+        &["rings", "courses"],
         "strakes = 8 x 1200 mm",
-        "1 to 24 strakes of 200 to 3,000 mm",
+        "1 to 24 strakes of 200 to 3000 mm",
     ),
-    row(Name::Depths, "depths", "z", "depths = every 500 mm", "1 to 200 depths, rising"),
+    row(Name::Depths, "depths", &["z"], "depths = every 500 mm", "1 to 200 depths, rising"),
+    row(Name::Project, "project", &[], "", ""),
+    row(Name::Customer, "customer", &[], "", ""),
+    row(Name::Place, "place", &[], "", ""),
+    row(Name::Author, "author", &[], "", ""),
+    row(Name::Date, "date", &[], "", ""),
+    row(Name::Revision, "revision", &[], "", ""),
+    row(Name::Note, "note", &[], "", ""),
 ];
 
 pub const COUNT: usize = NAMES.len();
+
+/// What a text says of the order, with the most characters that each may have.
+pub const LABELS: [(Name, usize); 7] = [
+    (Name::Project, 60),
+    (Name::Customer, 60),
+    (Name::Place, 60),
+    (Name::Author, 60),
+    (Name::Date, 60),
+    (Name::Revision, 60),
+    (Name::Note, 200),
+];
+
+/// Names that a person may expect, and what says it here.
+const ELSEWHERE: [(&[&str], &str); 4] = [
+    (
+        &["height", "wall height", "silo height", "total height", "h", "v"],
+        "the wall's height is the sum of its strakes; leave the line out",
+    ),
+    (&["width", "length"], "write diameter = 5000 mm or sides = 4000 x 6000 mm"),
+    (&["bottom"], "write floor = flat, or a hopper by hopper height and hopper run"),
+    (&["headroom", "fill level"], "the grain is taken as level with the brim; leave the line out"),
+];
 
 impl Name {
     pub fn word(self) -> &'static str {
@@ -99,48 +170,107 @@ impl Name {
         NAMES[self as usize].limits
     }
 
-    /// A name in any case and spacing, or ENV's symbol to the letter.
-    pub fn read(text: &str) -> Result<Name, String> {
+    /// A name in any case and spacing, a common spelling, or ENV's symbol.
+    pub fn find(text: &str) -> Option<Name> {
         let plain = plain(text);
-        let known = NAMES.iter().find(|row| row.word == plain || row.symbol == text);
-        known.map(|row| row.name).ok_or_else(|| {
-            let words = NAMES.iter().map(|row| row.word);
-            format!("{text}: unknown name; {}", suggestion(&plain, words))
-        })
+        let spelt = |other: &&str| match other.chars().count() {
+            1 => *other == text,
+            _ => *other == plain,
+        };
+        let named = |row: &&Row| row.word == plain || row.others.iter().any(spelt);
+        NAMES.iter().find(named).map(|row| row.name)
+    }
+
+    pub fn is_label(self) -> bool {
+        LABELS.iter().any(|(label, _)| *label == self)
     }
 }
 
-/// Small letters, single spaces, `_` and `-` as spaces.
+/// What a person may have meant by an unknown name, in words, and the name where it is one.
+pub fn meant(text: &str) -> (String, Option<Name>) {
+    let plain = plain(text);
+    let plain = plain.as_str();
+    let elsewhere = ELSEWHERE.iter().find(|(names, _)| names.contains(&plain));
+    let words = NAMES.iter().map(|row| row.word);
+    let needed = words.clone().take(COUNT - LABELS.len());
+    let labels = LABELS.iter().map(|(name, _)| name.word());
+    let close = close(plain, words);
+    let mend = match (elsewhere, &close[..]) {
+        (Some((_, mend)), _) => mend.to_string(),
+        (None, []) => format!("{}, or, for all outputs, {}", choice(needed), listed(labels)),
+        (None, close) => did_you_mean(close),
+    };
+    let name = match (elsewhere, &close[..]) {
+        (None, [word]) => Name::find(word),
+        _ => None,
+    };
+    (mend, name)
+}
+
+/// Small letters without accents set apart, single spaces, `_` and `-` as spaces.
 pub fn plain(text: &str) -> String {
-    let spaced = text.to_lowercase().replace(['_', '-'], " ");
-    spaced.split_whitespace().collect::<Vec<&str>>().join(" ")
+    let accent = |c: &char| ('\u{300}'..='\u{36f}').contains(c);
+    let letters: String = text.to_lowercase().chars().filter(|c| !accent(c)).collect();
+    letters.replace(['_', '-'], " ").split_whitespace().collect::<Vec<&str>>().join(" ")
 }
 
 /// The words that a text is part of, or the nearest; all of them where none is near.
 pub fn suggestion<'a>(text: &str, words: impl Iterator<Item = &'a str> + Clone) -> String {
-    let whole: Vec<&str> = words.clone().filter(|word| word.contains(text)).collect();
-    if text.len() > 2 && !whole.is_empty() {
-        return format!("did you mean {}?", whole.join(" or "));
-    }
-    let nearest = words.clone().min_by_key(|word| distance(text, word));
-    match nearest.filter(|word| distance(text, word) <= 1 + text.chars().count() / 4) {
-        Some(word) => format!("did you mean {word}?"),
-        None => format!("it can be {}", words.collect::<Vec<&str>>().join(", ")),
-    }
+    near(text, words.clone()).unwrap_or_else(|| choice(words))
 }
 
-/// Letters to put in, leave out or exchange to turn one word into the other.
+/// The words that a text is part of or that are part of it, or the nearest.
+pub fn near<'a>(text: &str, words: impl Iterator<Item = &'a str> + Clone) -> Option<String> {
+    let close = close(text, words);
+    (!close.is_empty()).then(|| did_you_mean(&close))
+}
+
+fn choice<'a>(words: impl Iterator<Item = &'a str>) -> String {
+    format!("it can be {}", listed(words))
+}
+
+fn listed<'a>(words: impl Iterator<Item = &'a str>) -> String {
+    words.collect::<Vec<&str>>().join(", ")
+}
+
+fn did_you_mean(words: &[&str]) -> String {
+    format!("did you mean {}?", words.join(" or "))
+}
+
+/// Letters by which a misspelt word may differ at most.
+const MOST_LETTERS: usize = 3;
+
+/// The words that a text is part of or that are part of it; where there are none, the nearest, if it differs by few letters.
+fn close<'a>(text: &str, words: impl Iterator<Item = &'a str> + Clone) -> Vec<&'a str> {
+    let is_part = |word: &str| text.split(|c: char| !c.is_alphanumeric()).any(|part| part == word);
+    let shares = |word: &&str| word.contains(text) || is_part(word);
+    let whole: Vec<&str> = words.clone().filter(shares).collect();
+    if text.len() > 2 && !whole.is_empty() {
+        return whole;
+    }
+    let few = (text.chars().count() / 4).clamp(1, MOST_LETTERS);
+    let nearest = words.min_by_key(|word| distance(text, word));
+    nearest.into_iter().filter(|word| distance(text, word) <= few).collect()
+}
+
+/// Letters to put in, leave out, exchange or swap with the next to turn one word into the other; of a long text 40 count.
 fn distance(a: &str, b: &str) -> usize {
+    let a: Vec<char> = a.chars().take(40).collect();
     let b: Vec<char> = b.chars().collect();
-    let mut row: Vec<usize> = (0..=b.len()).collect();
-    for (i, letter) in a.chars().take(40).enumerate() {
-        let mut diagonal = row[0];
-        row[0] = i + 1;
-        for (j, other) in b.iter().enumerate() {
-            let exchanged = diagonal + usize::from(letter != *other);
-            diagonal = row[j + 1];
-            row[j + 1] = exchanged.min(row[j] + 1).min(diagonal + 1);
+    let mut table = vec![vec![0; b.len() + 1]; a.len() + 1];
+    for i in 0..=a.len() {
+        for j in 0..=b.len() {
+            table[i][j] = match (i, j) {
+                (0, _) => j,
+                (_, 0) => i,
+                _ => {
+                    let exchanged = table[i - 1][j - 1] + usize::from(a[i - 1] != b[j - 1]);
+                    let swaps = i > 1 && j > 1 && a[i - 1] == b[j - 2] && a[i - 2] == b[j - 1];
+                    let swapped = if swaps { table[i - 2][j - 2] + 1 } else { exchanged };
+                    exchanged.min(swapped).min(table[i - 1][j] + 1).min(table[i][j - 1] + 1)
+                }
+            };
         }
     }
-    row[b.len()]
+    table[a.len()][b.len()]
 }

@@ -3,7 +3,9 @@
 use crate::description::{Description, Section};
 use crate::library::Refusal;
 use crate::name::Name;
-use crate::number::{hundredths, millimetres, newtons};
+use crate::number::{
+    hundredths, millimetres, newtons, Measure, FACTOR, FRICTION, RATIO, SIDE, STRAKE, WEIGHT,
+};
 
 /// A number of a sheet, or a whole list.
 #[derive(Clone, Copy, Debug, PartialEq, Eq)]
@@ -25,17 +27,85 @@ pub struct Place {
 /// Most places that are listed for one refusal.
 const MOST: usize = 5;
 
+/// The rules on a silo's numbers, in the order in which they are tried.
+const RULES: [Refusal; 8] = [
+    Refusal::SECTION,
+    Refusal::PRODUCT,
+    Refusal::ECCENTRICITY,
+    Refusal::BOTTOM,
+    Refusal::STRAKE,
+    Refusal::DEPTH,
+    Refusal::TOO_SLENDER,
+    Refusal::SQUAT,
+];
+
+/// Sizes that other numbers are measured by.
+#[derive(Clone, Copy)]
+struct Sizes {
+    /// d_c, mm
+    width: Option<u64>,
+    /// V, mm
+    wall: Option<u64>,
+    /// H, mm
+    hopper: Option<u64>,
+}
+
+impl Sizes {
+    fn of(silo: &Description) -> Sizes {
+        Sizes {
+            width: Some(silo.section.shorter_side().into()),
+            wall: Some(silo.wall_height()),
+            hopper: Some(silo.hopper_height.into()),
+        }
+    }
+
+    /// Those that are not at fault themselves.
+    fn sound(silo: &Description) -> Sizes {
+        let all = Sizes::of(silo);
+        let width = all.width.filter(|_| sides(silo.section).is_empty());
+        let counted = counts(silo).iter().all(|place| place.field != Field::Line(Name::Strakes));
+        Sizes {
+            width,
+            wall: all.wall.filter(|_| counted && strakes(silo).is_empty()),
+            hopper: all.hopper.filter(|_| bottom(silo, &Sizes { width, ..all }).is_empty()),
+        }
+    }
+}
+
 /// The places that a refusal speaks of, as far as they can be found.
 pub fn places(refusal: Refusal, silo: &Description) -> Vec<Place> {
+    judged(refusal, silo, &Sizes::of(silo))
+}
+
+/// Limits that are broken beside the one that was refused first, each with its refusal. What is measured by a size that is itself at
+/// fault is left for later.
+pub fn others(first: Refusal, silo: &Description) -> Vec<(Refusal, Place)> {
+    let sizes = Sizes::sound(silo);
+    let rules = RULES.into_iter().filter(|rule| *rule != first);
+    let found = rules.map(|rule| (rule, judged(rule, silo, &sizes)));
+    found.flat_map(|(rule, places)| places.into_iter().map(move |place| (rule, place))).collect()
+}
+
+/// What is left for later, where a size that other numbers are measured by is at fault.
+pub fn later(silo: &Description) -> Option<String> {
+    let Sizes { width, wall, hopper } = Sizes::sound(silo);
+    let sizes = [(width, "the diameter or sides"), (wall, "the strakes"), (hopper, "the hopper")];
+    let at_fault = sizes.iter().filter(|(size, _)| size.is_none()).map(|(_, name)| *name);
+    let at_fault = at_fault.collect::<Vec<&str>>().join(" and ");
+    (!at_fault.is_empty())
+        .then(|| format!("limits measured by {at_fault} are judged after the mend"))
+}
+
+fn judged(refusal: Refusal, silo: &Description, sizes: &Sizes) -> Vec<Place> {
     let mut found = match refusal {
         Refusal::SHEET_TOO_LONG | Refusal::WRONG_LENGTH => counts(silo),
-        Refusal::SECTION => section(silo),
+        Refusal::SECTION => sides(silo.section),
         Refusal::PRODUCT => product(silo),
-        Refusal::ECCENTRICITY => eccentricities(silo),
-        Refusal::BOTTOM => bottom(silo),
+        Refusal::ECCENTRICITY => eccentricities(silo, sizes),
+        Refusal::BOTTOM => bottom(silo, sizes),
         Refusal::STRAKE => strakes(silo),
-        Refusal::DEPTH => depths(silo),
-        Refusal::TOO_SLENDER | Refusal::SQUAT => shape(refusal, silo),
+        Refusal::DEPTH => depths(silo, sizes),
+        Refusal::TOO_SLENDER | Refusal::SQUAT => shape(refusal, sizes).into_iter().collect(),
         _ => Vec::new(),
     };
     let more = found.len().saturating_sub(MOST);
@@ -46,14 +116,23 @@ pub fn places(refusal: Refusal, silo: &Description) -> Vec<Place> {
     found
 }
 
+const MOST_STRAKES: u64 = 24;
+/// mm
+const HIGHEST_STRAKE: u64 = STRAKE.limits.1;
+
 fn counts(silo: &Description) -> Vec<Place> {
     let mut found = Vec::new();
     let (strakes, depths) = (silo.strakes.len(), silo.depths.len());
-    if !(1..=24).contains(&strakes) {
-        let why = format!("{strakes} strakes; a wall has 1 to 24; take higher strakes");
+    if !(1..=MOST_STRAKES as usize).contains(&strakes) {
+        let mend = match silo.wall_height() > MOST_STRAKES * HIGHEST_STRAKE {
+            true => "so it is at most 72000 mm high",
+            false => "take higher strakes",
+        };
+        let why = format!("{strakes} strakes; a wall has 1 to 24; {mend}");
         found.push(Place { field: Field::Line(Name::Strakes), why });
     }
-    if !(1..=200).contains(&depths) {
+    // steps and edges follow the strakes
+    if found.is_empty() && !(1..=200).contains(&depths) {
         let mut why =
             format!("{depths} depths; a sheet has 1 to 200; list fewer or take a larger step");
         let step = silo.wall_height().div_ceil(199);
@@ -65,44 +144,59 @@ fn counts(silo: &Description) -> Vec<Place> {
     found
 }
 
-/// A number, its limits, how it is shown, and other readings of it that a person may have meant.
+/// A number with its limits, and other readings of it that a person may have meant.
 struct Limit {
     field: Field,
     name: &'static str,
     number: u64,
-    from: u64,
-    to: u64,
-    show: fn(u64) -> String,
-    /// Factors by which a slip of unit makes a number too small or too large.
+    measure: &'static Measure,
+    /// A factor by which a slip of unit makes a number too small or too large.
     slip: u64,
 }
 
 impl Limit {
     fn place(&self) -> Option<Place> {
-        let (number, show) = (self.number, self.show);
-        let good = |n: &u64| (self.from..=self.to).contains(n);
-        if good(&number) {
+        let (number, show) = (self.number, self.measure.show);
+        let (from, to) = self.measure.limits;
+        if (from..=to).contains(&number) {
             return None;
         }
         let found = match number {
             0 => format!("{} is missing or 0; it must be", self.name),
             _ => format!("{} must be", self.name),
         };
-        let meant = [number.checked_mul(self.slip), Some(number / self.slip)];
-        let meant = meant.into_iter().flatten().find(good);
-        let hint = meant.map(|n| format!("; did you mean {}?", show(n))).unwrap_or_default();
-        let why = format!("{found} {} to {}{hint}", show(self.from), show(self.to));
+        let why = format!("{found} {} to {}{}", show(from), show(to), self.hint());
         Some(Place { field: self.field, why })
+    }
+
+    /// What the number is in another unit, where that is inside the limits.
+    fn hint(&self) -> String {
+        let (number, show) = (self.number, self.measure.show);
+        let (from, to) = self.measure.limits;
+        let good = |n: &u64| (from..=to).contains(n);
+        let whole = Some(number / self.slip).filter(|_| number.is_multiple_of(self.slip));
+        let meant = [number.checked_mul(self.slip), whole];
+        let meant = meant.into_iter().flatten().find(good).map(show);
+        let angle = self.field == Field::Line(Name::Friction) && (500..=4500).contains(&number);
+        let tangent = self.measure.tangent(number as f64 / 100.0).filter(|_| angle);
+        match (meant, tangent) {
+            (Some(meant), Some(tangent)) => {
+                format!("; {meant} if it is in hundredths; if it is an angle, {tangent}")
+            }
+            (Some(meant), None) => format!("; did you mean {meant}?"),
+            (None, _) => String::new(),
+        }
     }
 }
 
-fn length(field: Field, name: &'static str, number: u64, from: u64, to: u64) -> Limit {
-    Limit { field, name, number, from, to, show: millimetres, slip: 1000 }
+fn length(field: Field, name: &'static str, number: u64, measure: &'static Measure) -> Limit {
+    Limit { field, name, number, measure, slip: 1000 }
 }
 
-fn section(silo: &Description) -> Vec<Place> {
-    let side = |field, name, number: u32| length(field, name, number.into(), 500, 50_000).place();
-    match silo.section {
+/// A diameter or sides outside their limits.
+pub fn sides(section: Section) -> Vec<Place> {
+    let side = |field, name, number: u32| length(field, name, number.into(), &SIDE).place();
+    match section {
         Section::Circle(d) => {
             side(Field::Line(Name::Diameter), "the diameter", d).into_iter().collect()
         }
@@ -115,69 +209,62 @@ fn section(silo: &Description) -> Vec<Place> {
 
 fn product(silo: &Description) -> Vec<Place> {
     let product = &silo.product;
-    let ratio = |field, name, number: u16, from, to| Limit {
-        field,
+    let ratio = |line, name, number: u16, measure| Limit {
+        field: Field::Line(line),
         name,
         number: number.into(),
-        from,
-        to,
-        show: hundredths,
+        measure,
         slip: 100,
     };
     let weight = Limit {
         field: Field::Line(Name::Weight),
         name: "the weight",
         number: product.weight.into(),
-        from: 1_000,
-        to: 30_000,
-        show: newtons,
+        measure: &WEIGHT,
         slip: 1000,
     };
-    let factor = ratio(Field::Line(Name::Factor), "the factor C0", product.factor, 100, 200);
-    let blank = product.factor == 0;
+    let factor = ratio(Name::Factor, "the factor C0", product.factor, &FACTOR);
     let limits = [
         Some(weight),
-        Some(ratio(Field::Line(Name::Ratio), "the ratio Ks", product.ratio, 20, 100)),
-        Some(ratio(Field::Line(Name::Friction), "wall friction", product.friction, 10, 100)),
-        (!blank).then_some(factor),
+        Some(ratio(Name::Ratio, "the ratio Ks", product.ratio, &RATIO)),
+        Some(ratio(Name::Friction, "wall friction", product.friction, &FRICTION)),
+        (product.factor > 0).then_some(factor),
     ];
     limits.into_iter().flatten().filter_map(|limit| limit.place()).collect()
 }
 
-fn eccentricities(silo: &Description) -> Vec<Place> {
-    let most = silo.section.shorter_side() / 4;
+fn eccentricities(silo: &Description, sizes: &Sizes) -> Vec<Place> {
+    let Some(most) = sizes.width.map(|width| width / 4) else { return Vec::new() };
     let of = [
         (Field::Line(Name::FillingEccentricity), silo.filling_eccentricity),
         (Field::Line(Name::OutletEccentricity), silo.outlet_eccentricity),
     ];
-    let over = of.into_iter().filter(|(_, e)| *e > most);
+    let over = of.into_iter().filter(|(_, e)| u64::from(*e) > most);
     let why = format!("it must be at most a quarter of the diameter or shorter side, {most} mm");
     over.map(|(field, _)| Place { field, why: why.clone() }).collect()
 }
 
-fn bottom(silo: &Description) -> Vec<Place> {
+fn bottom(silo: &Description, sizes: &Sizes) -> Vec<Place> {
     let [height, run] = [silo.hopper_height, silo.hopper_run].map(u64::from);
-    let width = u64::from(silo.section.shorter_side());
     let least = (363_971 * run).div_ceil(1_000_000);
+    let too_wide = sizes.width.filter(|width| run > 0 && 2 * run >= *width);
     let mut found = Vec::new();
-    let mut add = |field, why| found.push(Place { field, why });
+    let mut add = |name, why| found.push(Place { field: Field::Line(name), why });
     if run == 0 && height > 0 {
         let why = "the run is 0; it must be at least 1 mm, or write floor = flat without a hopper";
-        add(Field::Line(Name::HopperRun), why.to_string());
+        add(Name::HopperRun, why.to_string());
     }
-    if run > 0 && 2 * run >= width {
+    if let Some(width) = too_wide {
         let limit = format!("twice the run must be under the diameter or shorter side, {width} mm");
-        add(Field::Line(Name::HopperRun), format!("{limit}, so that an outlet is left"));
+        add(Name::HopperRun, format!("{limit}, so that an outlet is left"));
     }
     if height > 25_000 {
-        add(Field::Line(Name::HopperHeight), "it must be at most 25000 mm".to_string());
+        add(Name::HopperHeight, "it must be at most 25000 mm".to_string());
     }
-    if height < least {
+    // a slope is measured by a run that can stay
+    if height < least && too_wide.is_none() {
         let slope = format!("over a run of {run} mm the slope is under 20 degrees");
-        add(
-            Field::Line(Name::HopperHeight),
-            format!("{slope}; the height must be at least {least} mm"),
-        );
+        add(Name::HopperHeight, format!("{slope}; the height must be at least {least} mm"));
     }
     found
 }
@@ -187,7 +274,7 @@ fn strakes(silo: &Description) -> Vec<Place> {
     let mut found = Vec::new();
     let mut first = 0;
     for run in silo.strakes.chunk_by(|a, b| a == b) {
-        let limit = length(Field::Strake(first), "the height", run[0].into(), 200, 3_000);
+        let limit = length(Field::Strake(first), "the height", run[0].into(), &STRAKE);
         let last = first + run.len();
         found.extend(limit.place().map(|mut place| {
             if run.len() > 1 {
@@ -200,11 +287,10 @@ fn strakes(silo: &Description) -> Vec<Place> {
     found
 }
 
-fn depths(silo: &Description) -> Vec<Place> {
-    let foot = silo.wall_height();
+fn depths(silo: &Description, sizes: &Sizes) -> Vec<Place> {
     let mut found = Vec::new();
     for (i, depth) in silo.depths.iter().enumerate() {
-        if u64::from(*depth) > foot {
+        if let Some(foot) = sizes.wall.filter(|foot| u64::from(*depth) > *foot) {
             let why = format!(
                 "below the wall's foot; it must be at most the sum of the strakes, {foot} mm"
             );
@@ -217,21 +303,23 @@ fn depths(silo: &Description) -> Vec<Place> {
     found
 }
 
-fn shape(refusal: Refusal, silo: &Description) -> Vec<Place> {
-    let width = u64::from(silo.section.shorter_side());
-    let (wall, hopper, height) = (silo.wall_height(), silo.hopper_height, silo.height());
-    let made = format!("wall {wall} mm and hopper {hopper} mm make h = {height} mm");
+/// Of a silo that keeps or breaks one of the two limits on its shape: h < 10 d_c and 2h >= 3 d_c.
+fn shape(refusal: Refusal, sizes: &Sizes) -> Option<Place> {
+    let (width, wall, hopper) = (sizes.width?, sizes.wall?, sizes.hopper?);
+    let height = wall + hopper;
     let limit = match refusal {
-        Refusal::SQUAT => format!(
+        Refusal::SQUAT if 2 * height < 3 * width => format!(
             "at least 1.5 times {width} mm, {} mm; add strakes or take a narrower silo",
             (3 * width).div_ceil(2)
         ),
-        _ => format!(
-            "under 10 times {width} mm, {} mm; take off strakes or take a wider silo",
-            10 * width
-        ),
+        Refusal::TOO_SLENDER if height >= 10 * width => {
+            let lower = if hopper > 0 { "take off strakes or hopper" } else { "take off strakes" };
+            format!("under 10 times {width} mm, {} mm; {lower} or take a wider silo", 10 * width)
+        }
+        _ => return None,
     };
-    vec![Place { field: Field::Line(Name::Strakes), why: format!("{made}; it must be {limit}") }]
+    let made = format!("wall {wall} mm and hopper {hopper} mm make h = {height} mm");
+    Some(Place { field: Field::Line(Name::Strakes), why: format!("{made}; it must be {limit}") })
 }
 
 impl Field {

@@ -1,27 +1,45 @@
 //! A file that holds a silo, as text or as a sheet of bytes, and why it gives no loads.
 
+use crate::catalogue::Origin;
+use crate::content::{self, Content};
 use crate::description::Description;
-use crate::library::Refusal;
+use crate::library::{Loads, Refusal};
+use crate::place::{self, Place};
+use crate::report::{Labels, Report};
 use crate::text::{self, Text};
-use crate::{form, json, place};
+use crate::units::Units;
+use crate::{form, json};
 
 /// A silo with its sheet, and the text where it was written as one.
 pub struct Source {
     pub silo: Description,
     pub sheet: Vec<u8>,
+    origin: Origin,
+    labels: Labels,
     text: Option<Text>,
 }
 
 pub enum Failure {
-    /// Lines that cannot be read.
-    Text(Vec<text::Error>),
+    Unread(Unread),
     Refused(Refused),
 }
 
-/// A refusal of the library, and where in the file it comes from.
+/// What is wrong with a file or a text that cannot be read, and how many errors more there are.
+pub struct Unread {
+    meaning: &'static str,
+    wheres: Vec<Where>,
+    more: usize,
+}
+
+/// A refusal of the library, where in the file it comes from, and what else the tool reads as broken.
 pub struct Refused {
     refusal: Refusal,
     wheres: Vec<Where>,
+    others: Vec<(Refusal, Where)>,
+    /// How many others are not listed.
+    more: usize,
+    /// What cannot be judged yet.
+    later: Option<String>,
 }
 
 struct Where {
@@ -31,62 +49,92 @@ struct Where {
     what: String,
 }
 
-/// The first bytes of a text in UTF-16, which has to be saved as UTF-8.
-const UTF_16: [&[u8]; 2] = [b"\xff\xfe", b"\xfe\xff"];
-
-/// A sheet starts with byte 4 or 8, and no text has such control characters. An empty file is an empty sheet.
-pub fn is_sheet(bytes: &[u8]) -> bool {
-    let control = |byte: &u8| *byte < b' ' && !b"\t\n\r".contains(byte);
-    let utf_16 = UTF_16.iter().any(|mark| bytes.starts_with(mark));
-    bytes.is_empty() || (!utf_16 && bytes.iter().any(control))
-}
-
 /// The silo of a file, text or bytes.
 pub fn open(bytes: &[u8]) -> Result<Source, Failure> {
-    if is_sheet(bytes) {
-        return open_sheet(bytes);
+    match Content::of(bytes) {
+        Content::Sheet => open_sheet(bytes),
+        Content::Text => open_text(bytes),
+        Content::Foreign(what) => Err(Failure::foreign(what)),
     }
-    let text = read_text(bytes).and_then(text::read).map_err(Failure::Text)?;
+}
+
+fn open_text(bytes: &[u8]) -> Result<Source, Failure> {
+    let text = content::text(bytes).and_then(text::read);
+    let text = text.map_err(|errors| Failure::Unread(errors.into()))?;
     let silo = text.description.clone();
-    Ok(Source { sheet: silo.to_bytes(), silo, text: Some(text) })
+    let (origin, labels) = (text.origin.clone(), text.labels.clone());
+    Ok(Source { sheet: silo.to_bytes(), silo, origin, labels, text: Some(text) })
+}
+
+impl Failure {
+    pub fn foreign(message: String) -> Failure {
+        Failure::Unread(vec![text::Error { line: None, message }].into())
+    }
 }
 
 pub fn open_sheet(sheet: &[u8]) -> Result<Source, Failure> {
     match Description::from_bytes(sheet) {
-        Ok(silo) => Ok(Source { silo, sheet: sheet.to_vec(), text: None }),
+        Ok(silo) => {
+            let (origin, labels) = (Origin::default(), Labels::new());
+            Ok(Source { silo, sheet: sheet.to_vec(), origin, labels, text: None })
+        }
         Err(refusal) => {
             let fault = form::fault(sheet);
             let at = |what| Where { position: String::new(), line: None, what };
             let wheres = fault.into_iter().map(at).collect();
-            Err(Failure::Refused(Refused { refusal, wheres }))
+            Err(Failure::Refused(Refused {
+                refusal,
+                wheres,
+                others: Vec::new(),
+                more: 0,
+                later: None,
+            }))
         }
     }
 }
 
-fn read_text(bytes: &[u8]) -> Result<&str, Vec<text::Error>> {
-    std::str::from_utf8(bytes).map_err(|error| {
-        let before = &bytes[..error.valid_up_to()];
-        let line = 1 + before.iter().filter(|byte| **byte == b'\n').count();
-        let message = "not UTF-8 text; save the file as UTF-8".to_string();
-        vec![text::Error { line: Some(line), message }]
-    })
+impl Source {
+    pub fn report<'a>(&'a self, file: &'a str, loads: &'a Loads, units: Units) -> Report<'a> {
+        let Source { silo, origin, labels, .. } = self;
+        Report { file, silo, origin, labels, loads, units }
+    }
+
+    /// The library's refusal with its places in this file, and the other limits that are broken.
+    pub fn refused(&self, refusal: Refusal) -> Failure {
+        let wheres = place::places(refusal, &self.silo);
+        let others = place::others(refusal, &self.silo);
+        let wheres: Vec<Where> = wheres.iter().map(|place| self.place(place)).collect();
+        let room = MOST_MESSAGES - wheres.len();
+        let more = others.len().saturating_sub(room);
+        let others = others.iter().take(room).map(|(rule, place)| (*rule, self.place(place)));
+        let later = place::later(&self.silo);
+        Failure::Refused(Refused { refusal, wheres, others: others.collect(), more, later })
+    }
+
+    fn place(&self, Place { field, why }: &Place) -> Where {
+        let line = self.text.as_ref().and_then(|text| text.line(field.name()));
+        let position = match (line, &self.text) {
+            (Some(line), _) => format!("line {line}"),
+            (None, None) => form::position(&self.silo, *field),
+            (None, Some(_)) => String::new(),
+        };
+        Where { position, line, what: format!("{}: {why}", field.shown(&self.silo)) }
+    }
 }
 
-impl Source {
-    /// The library's refusal with its places in this file.
-    pub fn refused(&self, refusal: Refusal) -> Failure {
-        let places = place::places(refusal, &self.silo);
-        let wheres = places.into_iter().map(|place| {
-            let line = self.text.as_ref().and_then(|text| text.line(place.field.name()));
-            let position = match (line, &self.text) {
-                (Some(line), _) => format!("line {line}"),
-                (None, None) => form::position(&self.silo, place.field),
-                (None, Some(_)) => String::new(),
-            };
-            let what = format!("{}: {}", place.field.shown(&self.silo), place.why);
-            Where { position, line, what }
-        });
-        Failure::Refused(Refused { refusal, wheres: wheres.collect() })
+impl Where {
+    /// `FILE:LINE: what is wrong`, or the byte in place of the line.
+    fn shown(&self, file: &str) -> String {
+        let Where { position, line, what } = self;
+        match line {
+            Some(line) => format!("{file}:{line}: {what}\n"),
+            None if position.is_empty() => format!("{file}: {what}\n"),
+            None => format!("{file}: {position}: {what}\n"),
+        }
+    }
+
+    fn json(&self) -> [(&'static str, String); 2] {
+        [("position", json::string(&self.position)), ("message", json::string(&self.what))]
     }
 }
 
@@ -94,35 +142,73 @@ impl Refused {
     pub fn lines(&self, file: &str) -> String {
         let Refusal(number) = self.refusal;
         let mut lines = format!("{file}: refused, {number}: {}\n", self.refusal.meaning());
-        for Where { position, line, what } in &self.wheres {
-            lines += &match line {
-                Some(line) => format!("{file}:{line}: {what}\n"),
-                None if position.is_empty() => format!("{file}: {what}\n"),
-                None => format!("{file}: {position}: {what}\n"),
-            };
+        lines.extend(self.wheres.iter().map(|place| place.shown(file)));
+        if !self.others.is_empty() {
+            lines += "also, as this program reads the rules (the library stops at the first):\n";
         }
+        lines.extend(self.others.iter().map(|(_, place)| place.shown(file)));
+        lines += &more(file, self.more);
+        lines.extend(self.later.iter().map(|later| format!("{file}: {later}\n")));
         lines
     }
 
     pub fn json(&self) -> String {
-        let wheres = self.wheres.iter().map(|place| {
-            let position = ("position", json::string(&place.position));
-            json::object(&[position, ("message", json::string(&place.what))])
+        let also = self.others.iter().map(|(Refusal(number), place)| {
+            json::object(&[&[("refusal", number.to_string())], &place.json()[..]].concat())
         });
-        let fields = [
+        json::document(&[
             ("refusal", self.refusal.0.to_string()),
             ("meaning", json::string(self.refusal.meaning())),
-            ("where", json::lines(wheres)),
-        ];
-        json::document(&fields)
+            ("where", json::lines(self.wheres.iter().map(|place| json::object(&place.json())))),
+            ("also", json::lines(also)),
+            ("more", self.more.to_string()),
+            ("later", json::string(self.later.as_deref().unwrap_or(""))),
+        ])
     }
 }
 
-/// `FILE:LINE: what is wrong`, an error a line.
-pub fn error_lines(file: &str, errors: &[text::Error]) -> String {
-    let line = |error: &text::Error| match error.line {
-        Some(line) => format!("{file}:{line}: {}\n", error.message),
-        None => format!("{file}: {}\n", error.message),
-    };
-    errors.iter().map(line).collect()
+/// At most so many messages are shown for one file.
+const MOST_MESSAGES: usize = 20;
+
+fn more(file: &str, count: usize) -> String {
+    match count {
+        0 => String::new(),
+        count => format!("{file}: {count} more\n"),
+    }
+}
+
+impl Unread {
+    /// A file that could not be opened or read, with its name.
+    pub fn file(what: String) -> Unread {
+        let place = Where { position: String::new(), line: None, what };
+        Unread { meaning: "the file cannot be read", wheres: vec![place], more: 0 }
+    }
+
+    /// An error a line.
+    pub fn lines(&self, file: &str) -> String {
+        let Unread { wheres, more, .. } = self;
+        let lines: String = wheres.iter().map(|place| place.shown(file)).collect();
+        lines + &self::more(file, *more)
+    }
+
+    pub fn json(&self) -> String {
+        json::document(&[
+            ("refusal", "null".to_string()),
+            ("meaning", json::string(self.meaning)),
+            ("where", json::lines(self.wheres.iter().map(|place| json::object(&place.json())))),
+            ("more", self.more.to_string()),
+        ])
+    }
+}
+
+impl From<Vec<text::Error>> for Unread {
+    fn from(errors: Vec<text::Error>) -> Unread {
+        let more = errors.len().saturating_sub(MOST_MESSAGES);
+        let wheres = errors.into_iter().take(MOST_MESSAGES).map(|error| Where {
+            position: error.line.map(|line| format!("line {line}")).unwrap_or_default(),
+            line: error.line,
+            what: error.message,
+        });
+        Unread { meaning: "the text cannot be read", wheres: wheres.collect(), more }
+    }
 }

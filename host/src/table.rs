@@ -1,22 +1,9 @@
 //! The loads as tables that a person reads.
 
-use crate::catalogue;
-use crate::description::{Description, Section};
-use crate::library::{Loads, ROW};
-use crate::number::hundredths;
+use crate::description::Section;
+use crate::report::{wrapped, Report, PROGRAM};
 use crate::text;
-
-/// A depth's numbers as ENV names them, and their units.
-pub const COLUMNS: [(&str, &str); ROW] = [
-    ("z", "mm"),
-    ("p_hf", "Pa"),
-    ("p_wf", "Pa"),
-    ("p_vf", "Pa"),
-    ("P_w", "N/m"),
-    ("p_he", "Pa"),
-    ("p_we", "Pa"),
-    ("p_p", "Pa"),
-];
+use crate::units::Units;
 
 const LEGEND: &str = "
 filling:   p_hf horizontal, p_wf wall friction, p_vf vertical,
@@ -24,77 +11,101 @@ filling:   p_hf horizontal, p_wf wall friction, p_vf vertical,
 discharge: p_he horizontal, p_we wall friction, p_p patch load
 ";
 
-pub fn loads(file: &str, silo: &Description, loads: &Loads) -> String {
-    let mut page =
-        format!("{file}\n{}\nLoads on the wall at depth z below the brim\n", heading(silo));
-    page += &(line(COLUMNS.map(|(name, _)| name)) + &line(COLUMNS.map(|(_, unit)| unit)));
-    for row in loads.rows() {
-        page += &line(row);
+/// Characters of the tables' widest part, which notes keep to as well.
+const WIDTH: usize = 76;
+
+pub fn page(report: &Report) -> String {
+    let line = |fields: Vec<String>| line(report, fields);
+    let mut page = heading(report) + "\nLoads on the wall at depth z below the brim\n";
+    let columns = report.columns();
+    page += &line(columns.map(|(name, _)| name.to_string()).to_vec());
+    page += &line(columns.map(|(_, unit)| unit.to_string()).to_vec());
+    for row in report.loads.rows() {
+        page += &line(report.row(row));
     }
-    page + LEGEND + &bottom(silo, loads) + &strakes(silo, loads)
+    page + LEGEND + &bottom(report) + &strakes(report) + &notes(report)
 }
 
-/// The sheet's numbers in three lines.
-fn heading(silo: &Description) -> String {
+/// The file, the order's own lines, and the sheet's numbers.
+fn heading(report: &Report) -> String {
+    let silo = report.silo;
+    let mut heading = format!("{}\n", report.file);
+    for (name, text) in report.labels {
+        heading += &format!("{name}: {text}\n");
+    }
     let section = match silo.section {
         Section::Circle(d) => format!("circle d {d} mm"),
         Section::Rectangle(a, b) => format!("rectangle {a} x {b} mm"),
     };
     let bottom = match silo.is_flat() {
         true => "flat floor".to_string(),
-        false => format!("hopper H {} mm, run r {} mm", silo.hopper_height, silo.hopper_run),
+        false => format!(
+            "hopper H {} mm, run r {} mm ({} degrees, outlet {} mm)",
+            silo.hopper_height,
+            silo.hopper_run,
+            silo.degrees(),
+            silo.outlet_width()
+        ),
     };
-    let wall = silo.wall_height();
     let [filling, outlet] = [silo.filling_eccentricity, silo.outlet_eccentricity];
-    format!(
-        "{section}, wall V {wall} mm in strakes of {} mm, {bottom}\n{}\n\
-         eccentricities: filling e_i {filling} mm, outlet e_o {outlet} mm\n",
-        text::runs(&silo.strakes),
-        product(silo)
-    )
+    heading
+        + &format!(
+            "{section}, wall V {} mm in strakes of {} mm, {bottom}\n{}\n\
+             eccentricities: filling e_i {filling} mm, outlet e_o {outlet} mm\n",
+            silo.wall_height(),
+            text::runs(&silo.strakes),
+            report.product()
+        )
 }
 
-/// The product's numbers, with its name where they are a row of table 7.1.
-pub fn product(silo: &Description) -> String {
-    let product = &silo.product;
-    let [ratio, friction, factor] =
-        [product.ratio, product.friction, product.factor].map(|number| hundredths(number.into()));
-    let factor = if product.factor == 0 { "blank, taken as 1.35" } else { &factor };
-    let name = catalogue::name_of(product).map(|name| format!("{name}: ")).unwrap_or_default();
-    format!(
-        "{name}weight {} N/m3, ratio Ks {ratio}, friction mu {friction}, factor C0 {factor}",
-        product.weight
-    )
-}
-
-fn bottom(silo: &Description, loads: &Loads) -> String {
+fn bottom(report: &Report) -> String {
+    let Report { silo, loads, units, .. } = report;
+    let unit = units.pressure();
     if silo.is_flat() {
-        let head = line(["floor"]) + &line(["Pa"]);
-        return format!("\nFlat floor, vertical (5.13)\n{head}{}", line([loads.floor()]));
+        let head = line(report, ["floor"]) + &line(report, [unit]);
+        let floor = line(report, [units.show(loads.floor())]);
+        return format!("\nFlat floor, vertical (5.13)\n{head}{floor}");
     }
     let mut page =
         "\nHopper, k quarters of its slope up from the outlet: P_n normal, P_t friction\n"
             .to_string();
-    page += &(line(["k", "P_n", "P_t"]) + &line(["", "Pa", "Pa"]));
+    page += &(line(report, ["k", "P_n", "P_t"]) + &line(report, ["", unit, unit]));
     for (k, normal, tangential) in loads.hopper() {
-        page += &line([k as u32, normal, tangential]);
+        page += &line(report, [k.to_string(), units.show(normal), units.show(tangential)]);
     }
     page
 }
 
-fn strakes(silo: &Description, loads: &Loads) -> String {
+fn strakes(report: &Report) -> String {
     let mut page =
         "\nStrakes, top first: horizontal pressure on discharge at the lower edge\n".to_string();
-    page += &(line(["strake", "height", "edge", "p_he"]) + &line(["", "mm", "mm", "Pa"]));
-    for (i, ((height, edge), load)) in silo.edges().zip(loads.strakes()).enumerate() {
-        page += &line([i as u64 + 1, height.into(), edge, (*load).into()]);
+    page += &line(report, ["strake", "height", "edge", "p_he"]);
+    page += &line(report, ["", "mm", "mm", report.units.pressure()]);
+    let strakes = report.silo.edges().zip(report.loads.strakes());
+    for (i, ((height, edge), load)) in strakes.enumerate() {
+        let [number, height, edge] = [i as u64 + 1, height.into(), edge].map(|n| n.to_string());
+        page += &line(report, [number, height, edge, report.units.show(*load)]);
     }
     page
 }
 
-/// Fields of nine characters, flush right.
-fn line<T: std::fmt::Display>(fields: impl IntoIterator<Item = T>) -> String {
-    let mut line: String = fields.into_iter().map(|field| format!("{field:>9}")).collect();
+/// What the loads leave out, and the program.
+fn notes(report: &Report) -> String {
+    let mut page = "\nNotes\n".to_string();
+    for note in report.notes() {
+        page += &format!("- {}\n", wrapped(&note, WIDTH - 2).join("\n  "));
+    }
+    format!("{page}\n{PROGRAM}\n")
+}
+
+/// Fields of nine characters, flush right; of eleven in kPa and kN/m, so that at least one space stands before each: no load has more
+/// than eight digits.
+fn line<T: std::fmt::Display>(report: &Report, fields: impl IntoIterator<Item = T>) -> String {
+    let width = match report.units {
+        Units::Whole => 9,
+        Units::Kilo => 11,
+    };
+    let mut line: String = fields.into_iter().map(|field| format!("{field:>width$}")).collect();
     line.push('\n');
     line
 }

@@ -1,8 +1,10 @@
 //! A silo as text: `name = value unit` a line.
 
 mod depths;
+mod hopper;
+mod product;
 mod read;
 mod write;
 
-pub use read::{read, Error, Text};
+pub use read::{is_silo, read, Error, Text};
 pub use write::{runs, write};

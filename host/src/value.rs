@@ -1,6 +1,6 @@
 //! The value of a line: one quantity with its unit, or a list of quantities.
 
-use crate::number::{Decimal, Measure};
+use crate::number::{comma, in_thousands, Decimal, Measure};
 
 #[derive(Clone, Copy, Debug, PartialEq)]
 enum Token<'a> {
@@ -74,9 +74,13 @@ pub fn quantity(value: &str, measure: &Measure) -> Result<u64, String> {
         [] => Err(format!("no value; {} is due", measure.name)),
         [Token::Number(number)] => one(number, None, measure),
         [Token::Number(number), Token::Word(unit)] => one(number, Some(unit), measure),
-        [Token::Number(first), Token::Number(second), ..] => Err(format!(
-            "{value}: two numbers where one is due; write {first}{second} without a space if it is one"
-        )),
+        [Token::Number(first), Token::Number(second), ..] => {
+            let mend = match in_thousands(&[first, second]) {
+                true => format!("; write {first}{second} without a space if it is one"),
+                false => String::new(),
+            };
+            Err(format!("{value}: two numbers where one is due{mend}"))
+        }
         [Token::Number(_), ..] => Err(format!("{value}: not one number with its unit")),
         _ => Err(format!("{value}: not a number; {} is due", measure.name)),
     }
@@ -84,7 +88,10 @@ pub fn quantity(value: &str, measure: &Measure) -> Result<u64, String> {
 
 fn one(number: &str, unit: Option<&str>, measure: &Measure) -> Result<u64, String> {
     let decimal = Decimal::read(number)?;
-    let power = measure.power(number, decimal.is_zero(), unit)?;
+    if let Some(why) = unit.and_then(|unit| measure.instead(decimal, number, unit)) {
+        return Err(why);
+    }
+    let power = measure.power(decimal, number, unit)?;
     let written = format!("{number} {}", unit.unwrap_or(""));
     measure.whole(decimal, power, written.trim_end())
 }
@@ -111,6 +118,13 @@ fn items<'a>(tokens: Vec<Token<'a>>, value: &str) -> Result<Vec<Item<'a>>, Strin
 }
 
 fn item<'a>(part: &[Token<'a>]) -> Result<Item<'a>, String> {
+    for token in part {
+        if let Token::Number(number) = token {
+            if number.contains(',') {
+                return Err(comma(number, true));
+            }
+        }
+    }
     let (count, rest) = match part {
         [Token::Number(count), Token::Times, rest @ ..] => {
             let whole = count.parse().map_err(|_| format!("{count} is not a count"))?;
@@ -122,25 +136,28 @@ fn item<'a>(part: &[Token<'a>]) -> Result<Item<'a>, String> {
         [Token::Number(number)] => Ok(Item { count, number, unit: None }),
         [Token::Number(number), Token::Word(unit)] => Ok(Item { count, number, unit: Some(unit) }),
         [] => Err("a number is missing before or after a comma".to_string()),
-        [Token::Number(first), Token::Number(second), ..] => Err(format!(
-            "a comma is missing between {first} and {second}, or a space is too much in {first}{second}"
-        )),
+        [Token::Number(first), Token::Number(second), ..] => {
+            let mend = match in_thousands(&[first, second]) {
+                true => format!(", or a space is too much in {first}{second}"),
+                false => String::new(),
+            };
+            Err(format!("a comma is missing between {first} and {second}{mend}"))
+        }
         [Token::Word(word), ..] => Err(format!("{word} is not a number")),
-        _ => Err("not a list of numbers; write them as 3 x 1200, 900 mm".to_string()),
+        _ => Err(NO_LIST.to_string()),
     }
 }
 
-/// The quantities of a list, at most `most` of them.
-pub fn list(value: &str, measure: &Measure, most: usize) -> Result<Vec<u64>, String> {
+const NO_LIST: &str = "not a list of numbers";
+
+/// The quantities of a list, at most `most` of them; `how` says how a list is written.
+pub fn list(value: &str, measure: &Measure, most: usize, how: &str) -> Result<Vec<u64>, String> {
     if value.is_empty() {
         return Err("no value; a list is due".to_string());
     }
     let mut numbers = Vec::new();
-    for item in items(tokens(value), value)? {
-        let number = one(item.number, item.unit, measure).map_err(|why| {
-            let comma = item.number.contains(',');
-            why + if comma { ", or a space after the comma for two numbers" } else { "" }
-        })?;
+    for item in items(tokens(value), value).map_err(|why| why.replace(NO_LIST, how))? {
+        let number = one(item.number, item.unit, measure)?;
         let room = (most - numbers.len()) as u64;
         if item.count > room {
             return Err(format!("{value}: more than {most} numbers, which a sheet cannot hold"));
@@ -156,6 +173,13 @@ pub fn list(value: &str, measure: &Measure, most: usize) -> Result<Vec<u64>, Str
 /// Two sides, `A x B UNIT`.
 pub fn pair(value: &str, measure: &Measure) -> Result<(u64, u64), String> {
     let apart = |token| if token == Token::Times { Token::Separator } else { token };
+    let commas = tokens(value).into_iter().find_map(|token| match token {
+        Token::Number(number) if number.contains(',') => Some(number),
+        _ => None,
+    });
+    if let Some(number) = commas {
+        return Err(comma(number, false));
+    }
     match items(tokens(value).into_iter().map(apart).collect(), value).as_deref() {
         Ok([a, b]) => Ok((one(a.number, a.unit, measure)?, one(b.number, b.unit, measure)?)),
         _ => Err(format!("{value}: two sides are due, such as 4000 x 6000 mm")),

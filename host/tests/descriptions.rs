@@ -127,7 +127,7 @@ fn bytes_to_text_and_back_are_the_same() {
     println!("20,000 descriptions, of which {accepted} are accepted");
 }
 
-/// The first refusal from 6 to 11 for which the tool finds a place is the library's; 12 and 13 have a place whenever they are asked for.
+/// The first refusal for which the tool finds a place is the library's.
 #[test]
 fn explanations_agree_with_the_library() {
     let mut random = Random(611);
@@ -135,14 +135,55 @@ fn explanations_agree_with_the_library() {
     for i in 0..100_000 {
         let silo = description(&mut random, i);
         let found = |number: &u32| !place::places(Refusal(*number), &silo).is_empty();
-        match (library::answers_length(&silo.to_bytes()), (6..=11).find(found)) {
-            (Err(refusal), Some(number)) => assert_eq!(refusal, Refusal(number), "{silo:?}"),
-            (Err(refusal), None) => assert!(refusal.0 > 11, "{refusal:?} {silo:?}"),
-            (Ok(_), explained) => assert_eq!(explained, None, "{silo:?}"),
-        }
-        met[library::answers_length(&silo.to_bytes()).map_or_else(|refusal| refusal.0, |_| 0)
-            as usize] += 1;
+        let verdict = library::answers_length(&silo.to_bytes()).err();
+        assert_eq!(verdict, (6..=13).find(found).map(Refusal), "{silo:?}");
+        met[verdict.map_or(0, |refusal| refusal.0) as usize] += 1;
     }
     println!("100,000 descriptions, accepted and refused 1 to 13: {met:?}");
     assert!(met[0] > 1000 && met[6..].iter().all(|count| *count > 0));
+}
+
+type Slip = fn(&mut Description);
+
+/// One number at fault, which breaks a rule and leaves every size alone that another number is measured by.
+const SLIPS: [(u32, Slip); 7] = [
+    (7, |silo| silo.product.weight = 999),
+    (7, |silo| silo.product.friction = 0),
+    (8, |silo| silo.filling_eccentricity = 50_000),
+    (8, |silo| silo.outlet_eccentricity = u32::MAX),
+    (11, |silo| silo.depths[0] = u32::MAX),
+    (11, |silo| silo.depths.push(0)),
+    (12, |silo| silo.strakes = vec![3000; 24]),
+];
+
+/// Every limit that is broken is listed, the library's first, each once.
+#[test]
+fn all_broken_limits_are_listed() {
+    let mut random = Random(2026);
+    let mut several = 0;
+    for _ in 0..20_000 {
+        let mut silo = usual_description(&mut random);
+        if library::answers_length(&silo.to_bytes()).is_err() || silo.depths.len() > 199 {
+            continue;
+        }
+        let mut broken = Vec::new();
+        for (number, slip) in SLIPS {
+            if random.below(3) == 0 {
+                slip(&mut silo);
+                broken.push(number);
+            }
+        }
+        broken.dedup();
+        let first = library::answers_length(&silo.to_bytes()).err().map(|refusal| refusal.0);
+        assert_eq!(first, broken.first().copied(), "{silo:?}");
+        let Some(first) = first else { continue };
+        let mut listed: Vec<u32> =
+            place::others(Refusal(first), &silo).iter().map(|(refusal, _)| refusal.0).collect();
+        listed.dedup();
+        assert_eq!(listed, broken[1..], "{silo:?}");
+        assert_eq!(place::later(&silo), None);
+        several += u32::from(broken.len() > 2);
+    }
+    println!("{several} silos with three or more broken limits");
+    assert!(several > 1000);
 }

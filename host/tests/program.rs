@@ -1,4 +1,5 @@
-//! The program as a person runs it: stored outputs of every sample, files, standard input and output, exit status.
+//! The program as a person runs it: stored outputs of every sample, standard input and output, exit
+//! status. What it does to files is in `files.rs`.
 
 mod common;
 
@@ -38,8 +39,26 @@ fn scratch(name: impl AsRef<Path>) -> PathBuf {
     PathBuf::from(env!("CARGO_TARGET_TMPDIR")).join(name)
 }
 
-const SAMPLES: [(&str, i32); 4] =
-    [("wheat-tower", 0), ("barley-bin", 0), ("cement", 0), ("blank-friction", 1)];
+const SAMPLES: [(&str, i32); 5] = [
+    ("wheat-tower", 0),
+    ("barley-bin", 0),
+    ("cement", 0),
+    ("corrugated-bin", 0),
+    ("blank-friction", 1),
+];
+
+/// Outputs of the samples that are not tables: where they are stored, and the command.
+const OUTPUTS: [(&str, &[&str]); 8] = [
+    ("samples/wheat-tower.csv", &["loads", "samples/wheat-tower.silo", "--csv"]),
+    ("samples/barley-bin.csv", &["loads", "--csv", "samples/barley-bin.silo"]),
+    ("samples/corrugated-bin.csv", &["loads", CORRUGATED, "--csv-semicolon", "--kpa"]),
+    ("samples/wheat-tower.json", &["loads", "samples/wheat-tower.silo", "--json"]),
+    ("samples/barley-bin.json", &["loads", "samples/barley-bin.silo", "--json"]),
+    ("docs/wheat-tower.svg", &["draw", "samples/wheat-tower.silo", "-o", "-"]),
+    ("docs/barley-bin.svg", &["draw", "samples/barley-bin.silo", "-o", "-"]),
+    ("docs/corrugated-bin.svg", &["draw", CORRUGATED, "--kpa", "-o", "-"]),
+];
+const CORRUGATED: &str = "samples/corrugated-bin.silo";
 
 #[test]
 fn samples_as_stored() {
@@ -52,36 +71,53 @@ fn samples_as_stored() {
         let file = format!("samples/{name}.silo");
         stored(&format!("samples/{name}.expected"), &written(&["loads", &file], status));
     }
-    stored("samples/wheat-tower.csv", &written(&["loads", "samples/wheat-tower.silo", "--csv"], 0));
-    stored("samples/barley-bin.csv", &written(&["loads", "--csv", "samples/barley-bin.silo"], 0));
-    stored("samples/barley-bin.json", &written(&["loads", "samples/barley-bin.silo", "--json"], 0));
-    stored(
-        "samples/wheat-tower.json",
-        &written(&["loads", "samples/wheat-tower.silo", "--json"], 0),
-    );
-    stored("docs/wheat-tower.svg", &written(&["draw", "samples/wheat-tower.silo", "-o", "-"], 0));
-    stored("docs/barley-bin.svg", &written(&["draw", "samples/barley-bin.silo", "-o", "-"], 0));
+    for (file, arguments) in OUTPUTS {
+        stored(file, &written(arguments, 0));
+    }
 }
 
 #[test]
 fn pages_as_stored() {
-    let pages: [(&[&str], i32); 18] = [
+    let pages: [(&[&str], i32); 41] = [
         (&["--version"], 0),
         (&["--help"], 0),
         (&["catalogue"], 0),
+        (&["catalogue", "--csv"], 0),
+        (&["catalogue", "--csv-semicolon"], 0),
+        (&["catalogue", "--json"], 2),
+        (&["catalogue", "--kpa"], 2),
         (&["catalogue", "wheat"], 2),
         (&[], 2),
         (&["lods", "samples/cement.silo"], 2),
         (&["loads"], 2),
         (&["loads", "samples/cement.silo", "samples/cement.silo"], 2),
         (&["loads", "samples/none.silo"], 2),
+        (&["loads", "samples/none.silo", "--json"], 2),
         (&["loads", "samples"], 2),
+        (&["loads", "/dev/zero"], 2),
         (&["loads", "samples/cement.silo", "--csv", "--json"], 2),
+        (&["loads", "samples/cement.silo", "--json", "--csv-semicolon"], 2),
+        (&["loads", "samples/cement.silo", "--csv", "--csv"], 2),
+        (&["loads", "samples/cement.silo", "--kpa", "--kpa"], 2),
         (&["loads", "samples/cement.silo", "--xml"], 2),
+        (&["loads", "samples/cement.silo", "--kPa"], 2),
+        (&["loads", "samples/cement.silo", "--cvs"], 2),
+        (&["loads", "samples/cement.silo", "-x"], 2),
+        (&["loads", "samples/cement.silo", "--force"], 2),
+        (&["loads", "samples/cement.silo", "--force", "-o", "-"], 2),
+        (&["loads", "samples/cement.silo", "-o", "samples/cement.pdf"], 2),
+        (&["loads", "samples/cement.silo", "-o", "samples"], 2),
         (&["draw", "samples/cement.silo"], 2),
         (&["draw", "samples/cement.silo", "-o"], 2),
+        (&["draw", "samples/cement.silo", "-o", ""], 2),
+        (&["draw", "samples/cement.silo", "-o", "--force"], 2),
+        (&["draw", "samples/cement.silo", "-o", "a.svg", "-o", "b.svg"], 2),
         (&["draw", "samples/cement.silo", "-o", "samples/none/cement.svg"], 2),
+        (&["draw", "samples/cement.silo", "-o", "samples/cement.silo", "--force"], 2),
+        (&["draw", "samples/cement.silo", "-o", "cement.svg", "--json"], 2),
         (&["sheet", "samples/cement.silo", "-o", "samples/cement.silo"], 2),
+        (&["sheet", "samples/cement.silo", "-o", "cement.sheet", "--kpa"], 2),
+        (&["loads", "samples/cement.silo", "--csv", "-o", "host/Cargo.toml"], 2),
         (&["explain", "samples/cement.silo"], 2),
         (&["explain", "samples/cement.silo", "--csv"], 2),
     ];
@@ -98,7 +134,8 @@ fn pages_as_stored() {
 fn sheets_of_the_samples() {
     for (name, status) in SAMPLES {
         let text = format!("samples/{name}.silo");
-        let [sheet, again] = [scratch(format!("{name}.sheet")), scratch(format!("{name}.again"))];
+        let [sheet, again] =
+            [scratch(format!("{name}.sheet")), scratch(format!("{name}-again.sheet"))];
         let [sheet, again] = [&sheet, &again].map(|path| path.to_str().expect("UTF-8"));
         written(&["sheet", &text, "-o", sheet], status);
         let explained = written(&["explain", sheet], 0);
@@ -109,9 +146,16 @@ fn sheets_of_the_samples() {
         assert_eq!(bytes, std::fs::read(again).expect(again));
         let [from_text, from_bytes] =
             [run(&["loads", &text, "--csv"]), fed(&["loads", "-", "--csv"], &bytes)];
-        assert_eq!(from_text.stdout, from_bytes.stdout);
+        assert_eq!(loads(&from_text.stdout), loads(&from_bytes.stdout));
         assert_eq!(from_text.status, from_bytes.status);
     }
+}
+
+/// The rows of the loads, without what a sheet does not hold.
+fn loads(csv: &[u8]) -> String {
+    let csv = String::from_utf8(csv.to_vec()).expect("UTF-8");
+    let of_loads = |line: &&str| !["silo,", "note,"].iter().any(|part| line.starts_with(part));
+    csv.lines().filter(of_loads).collect::<Vec<&str>>().join("\n")
 }
 
 /// Two names that are not UTF-8 and look the same where they are shown.
@@ -123,7 +167,8 @@ fn names_of_any_bytes() {
     let made = ended(silo(&["sheet"]).arg(&text).arg("-o").arg(&sheet));
     assert_eq!(made.status.code(), Some(0), "{made:?}");
     for file in [&text, &sheet] {
-        stored("samples/wheat-tower.csv", &ended(silo(&["loads", "--csv"]).arg(file)).stdout);
+        let shown = ended(silo(&["loads", "--csv"]).arg(file)).stdout;
+        assert_eq!(loads(&shown), loads(&sample("wheat-tower.csv")));
     }
     let refused = ended(silo(&["explain"]).arg(&text));
     let message = String::from_utf8(refused.stderr).expect("UTF-8");

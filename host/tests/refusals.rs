@@ -6,11 +6,12 @@ use common::{sample, stored, text_with};
 use silo::commands::{self, Format};
 use silo::library::{self, Refusal};
 use silo::text;
+use silo::units::Units;
 
 type Changes = &'static [(&'static str, &'static str)];
 
 /// Texts that are refused: the number, what is wrong, and the lines that differ from an accepted silo.
-const TEXTS: [(u32, &str, Changes); 36] = [
+const TEXTS: &[(u32, &str, Changes)] = &[
     (1, "far too many depths", &[("depths", "every 20 mm")]),
     (4, "too many depths", &[("depths", "every 45 mm")]),
     (4, "too many strakes", &[("strakes", "25 x 1000 mm")]),
@@ -21,6 +22,7 @@ const TEXTS: [(u32, &str, Changes); 36] = [
     (7, "blank friction", &[("friction", "")]),
     (7, "friction of 0", &[("friction", "0")]),
     (7, "friction in hundredths", &[("friction", "40")]),
+    (7, "friction as an angle", &[("friction", "24")]),
     (7, "friction just too small", &[("friction", "0.09")]),
     (7, "ratio and factor", &[("ratio", "1.01"), ("factor", "0.99")]),
     (7, "weight in the wrong unit", &[("weight", "9 N/m3")]),
@@ -49,6 +51,12 @@ const TEXTS: [(u32, &str, Changes); 36] = [
     (9, "hopper without a height", &[("hopper height", "0")]),
     (10, "a low strake", &[("strakes", "4 x 2000, 199 mm")]),
     (10, "strakes in the wrong unit", &[("strakes", "5 x 2 mm")]),
+    (
+        10,
+        "strakes in mm for m, with a step",
+        &[("strakes", "5 x 2 mm"), ("depths", "every 500 mm")],
+    ),
+    (4, "too many and too high", &[("strakes", "30 x 5000 mm")]),
     (10, "strakes too high", &[("strakes", "2 x 3001, 1000, 4 x 3500 mm")]),
     (11, "a depth below the foot", &[("depths", "0, 5000, 10001 mm")]),
     (11, "depths that fall", &[("depths", "0, 5000, 4000, 6000 mm")]),
@@ -71,6 +79,54 @@ const TEXTS: [(u32, &str, Changes); 36] = [
         ],
     ),
     (13, "squat by the shorter side", &[("diameter", "-"), ("sides", "20 x 9 m")]),
+    (
+        7,
+        "every limit at once",
+        &[
+            ("weight", "9 N/m3"),
+            ("ratio", "55"),
+            ("friction", ""),
+            ("filling eccentricity", "2 m"),
+            ("outlet eccentricity", "1300 mm"),
+            ("hopper run", "2.6 m"),
+            ("hopper height", "26 m"),
+            ("strakes", "100, 5000, 2 x 2000 mm"),
+            ("depths", "0, 500, 400 mm"),
+        ],
+    ),
+    (
+        4,
+        "more than twenty places",
+        &[
+            ("weight", ""),
+            ("ratio", ""),
+            ("friction", ""),
+            ("factor", "3"),
+            ("filling eccentricity", "2 m"),
+            ("outlet eccentricity", "2 m"),
+            ("hopper run", "70 m"),
+            ("hopper height", "25.1 m"),
+            ("strakes", "3100, 3200, 3300, 3400, 3500, 3600, 20 x 3700 mm"),
+            ("depths", "201 x 5 mm"),
+        ],
+    ),
+    (
+        9,
+        "a flat hopper by its outlet",
+        &[("hopper run", "-"), ("outlet width", "1000 mm"), ("hopper height", "700 mm")],
+    ),
+    (
+        7,
+        "an own friction with a product's name",
+        &[
+            ("weight", "-"),
+            ("ratio", "-"),
+            ("factor", "-"),
+            ("product", "wheat"),
+            ("wall", "corrugated"),
+            ("friction", "0.05"),
+        ],
+    ),
     (6, "the first refusal counts", &[("diameter", "1 mm"), ("friction", ""), ("depths", "99 m")]),
     (
         10,
@@ -88,7 +144,7 @@ const TEXTS: [(u32, &str, Changes); 36] = [
 ];
 
 fn refused(page: &mut String, number: u32, title: &str, file: &str, bytes: &[u8]) {
-    let outcome = commands::loads(file, bytes, Format::Table);
+    let outcome = commands::loads(file, bytes, Format::Table, Units::Whole);
     assert_eq!(outcome.status, 1, "{title}");
     assert!(
         outcome.messages.contains(&format!("refused, {number}:")),
@@ -140,7 +196,7 @@ fn sheets() -> Vec<(u32, &'static str, Vec<u8>)> {
 fn every_refusal_of_a_sheet() {
     let mut page = String::new();
     for (number, title, changes) in TEXTS {
-        refused(&mut page, number, title, "tower.silo", text_with(changes).as_bytes());
+        refused(&mut page, *number, title, "tower.silo", text_with(changes).as_bytes());
     }
     for (number, title, bytes) in sheets() {
         refused(&mut page, number, title, "tower.sheet", &bytes);
@@ -179,7 +235,59 @@ fn every_refusal_has_words() {
 #[test]
 fn a_refusal_in_json() {
     let blank = sample("blank-friction.silo");
-    let outcome = commands::loads("blank-friction.silo", &blank, Format::Json);
+    let outcome = commands::loads("blank-friction.silo", &blank, Format::Json, Units::Whole);
     assert_eq!((outcome.status, outcome.messages.as_str()), (1, ""));
     stored("host/tests/golden/refusal.json", &outcome.output);
+    let many = text_with(&[("diameter", "5 mm"), ("friction", ""), ("depths", "6, 5 mm")]);
+    let outcome = commands::loads("many.silo", many.as_bytes(), Format::Json, Units::Whole);
+    assert_eq!((outcome.status, outcome.messages.as_str()), (1, ""));
+    stored("host/tests/golden/refusals.json", &outcome.output);
+}
+
+#[test]
+fn an_unreadable_text_in_json() {
+    let text = text_with(&[("diameter", "5,0 m"), ("hight", "2"), ("strakes", "-")]);
+    let outcome = commands::loads("bad.silo", text.as_bytes(), Format::Json, Units::Whole);
+    assert_eq!((outcome.status, outcome.messages.as_str()), (2, ""));
+    stored("host/tests/golden/unreadable.json", &outcome.output);
+}
+
+/// Files of other programs, which are neither a text nor a sheet.
+#[test]
+fn files_of_other_programs() {
+    let files: [(&str, &[u8]); 9] = [
+        ("tower.docx", b"PK\x03\x04\x14\0\x06\0word/document.xml"),
+        ("tower.xlsx", b"PK\x03\x04\x14\0\x06\0xl/workbook.xml"),
+        ("tower.odt", b"PK\x03\x04\x14\0\0\0mimetypeapplication/vnd.oasis.opendocument.text"),
+        ("tower.zip", b"PK\x03\x04\x14\0\0\0tower.silo"),
+        ("tower.doc", b"\xd0\xcf\x11\xe0\xa1\xb1\x1a\xe1"),
+        ("tower.pdf", b"%PDF-1.4\n\x01"),
+        ("tower.rtf", b"{\\rtf1\\ansi diameter = 5000 mm}"),
+        ("tower.svg", b"<svg xmlns=\"http://www.w3.org/2000/svg\"/>"),
+        ("tower.json", b"{\n  \"refusal\": 7\n}\n"),
+    ];
+    let mut page = String::new();
+    for (name, bytes) in files {
+        let commands = [
+            commands::loads(name, bytes, Format::Table, Units::Whole),
+            commands::sheet(name, bytes),
+            commands::explain(name, bytes),
+            commands::draw(name, bytes, Units::Whole),
+        ];
+        for outcome in &commands {
+            assert_eq!((outcome.status, outcome.output.len()), (2, 0), "{name}");
+            assert_eq!(outcome.messages, commands[0].messages);
+        }
+        page += &commands[0].messages;
+    }
+    stored("host/tests/golden/foreign.txt", page.as_bytes());
+}
+
+#[test]
+fn at_most_twenty_messages() {
+    let text: String = (0..30).map(|i| format!("unknown{i} = {i}\n")).collect();
+    let outcome = commands::loads("many.silo", text.as_bytes(), Format::Table, Units::Whole);
+    let lines: Vec<&str> = outcome.messages.lines().collect();
+    assert_eq!(lines.len(), 21);
+    assert_eq!(lines[20], "many.silo: 17 more");
 }

@@ -6,6 +6,7 @@ use common::{sample, Random};
 use silo::commands::{self, Format, Outcome};
 use silo::library;
 use silo::text;
+use silo::units::Units;
 
 fn damaged(random: &mut Random, sheet: &[u8]) -> Vec<u8> {
     let mut bytes = sheet.to_vec();
@@ -50,14 +51,14 @@ fn damaged_sheets_are_judged_by_the_library_alone() {
             // a few bytes that may be text
             continue;
         }
-        agrees(&commands::loads("any.sheet", &bytes, Format::Table), &bytes);
-        commands::loads("any.sheet", &bytes, Format::Csv);
-        commands::loads("any.sheet", &bytes, Format::Json);
+        agrees(&commands::loads("any.sheet", &bytes, Format::Table, Units::Whole), &bytes);
+        commands::loads("any.sheet", &bytes, Format::Csv, Units::Whole);
+        commands::loads("any.sheet", &bytes, Format::Json, Units::Whole);
         let explained = commands::explain("any.sheet", &bytes);
         let form = library::answers_length(&bytes).is_err_and(|refusal| refusal.is_of_form());
         assert_eq!(explained.status, u8::from(form));
         if i % 4 == 0 {
-            agrees(&commands::draw("any.sheet", &bytes), &bytes);
+            agrees(&commands::draw("any.sheet", &bytes, Units::Whole), &bytes);
         }
         accepted += u32::from(library::answers_length(&bytes).is_ok());
     }
@@ -75,9 +76,9 @@ fn random_bytes_never_stop_a_command() {
             |random: &mut Random| if narrow { random.below(9) as u8 } else { random.next() as u8 };
         let bytes: Vec<u8> = (0..length).map(|_| byte(&mut random)).collect();
         let commands = [
-            commands::loads("any", &bytes, Format::Table),
+            commands::loads("any", &bytes, Format::Table, Units::Whole),
             commands::explain("any", &bytes),
-            commands::draw("any", &bytes),
+            commands::draw("any", &bytes, Units::Whole),
             commands::sheet("any", &bytes),
         ];
         assert!(commands.iter().all(|outcome| outcome.status > 0 && !outcome.messages.is_empty()));

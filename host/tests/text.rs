@@ -7,15 +7,25 @@ use common::{sample, stored, text_with, Random};
 use silo::commands::{self, Format};
 use silo::description::{Description, Product, Section};
 use silo::text::{self, Error};
+use silo::units::Units;
 
 /// Lines that differ from a readable silo.
-const BAD: [&[(&str, &str)]; 69] = [
+const BAD: &[&[(&str, &str)]] = &[
     &[("diameter", "")],
     &[("diameter", "5000")],
     &[("diameter", "5,0 m")],
     &[("diameter", "5,000 mm")],
     &[("diameter", "1,000,000 mm")],
     &[("diameter", "5 000 mm")],
+    &[("diameter", "2000,2000 mm")],
+    &[("diameter", "2000 2000 mm")],
+    &[("diameter", "1,2,3 m")],
+    &[("diameter", "5.000 mm")],
+    &[("diameter", "5.000,00 mm")],
+    &[("diameter", "5,000.0 mm")],
+    &[("outlet eccentricity", "1,000 mm")],
+    &[("weight", "9.000 N/m3")],
+    &[("diameter", "5 mm"), ("hopper run", "-"), ("outlet width", "600 mm")],
     &[("diameter", "5.0005 m")],
     &[("diameter", "-5 m")],
     &[("diameter", "five metres")],
@@ -34,20 +44,39 @@ const BAD: [&[(&str, &str)]; 69] = [
     &[("diameter", "-"), ("sides", "4 x 5 x 6 m")],
     &[("diameter", "-"), ("sides", "4 x m")],
     &[("diameter", "-"), ("sides", "4 m by 6 m")],
+    &[("diameter", "-"), ("sides", "4,5 x 6 m")],
     &[("sides", "4 x 6 m")],
     &[("diametre", "5 m")],
     &[("höhe", "5 m")],
     &[("bottom", "flat")],
+    &[("height", "16 m")],
+    &[("h", "16 m")],
+    &[("wall height", "16 m")],
+    &[("headroom", "300 mm")],
+    &[("volume", "300 m3")],
+    &[("dimaeter", "5 m")],
     &[("hopper", "2 m")],
     &[("outlet", "0")],
     &[("product", "rape seed")],
     &[("Diameter", "4 m")],
     &[("weight", "9")],
-    &[("weight", "9 kg/m3")],
+    &[("weight", "850 kg/m3")],
+    &[("weight", "0.765 t/m³")],
+    &[("weight", "76.5 kg/hl")],
+    &[("weight", "9 lb/ft3")],
+    &[("weight", "9 t/m3")],
+    &[("diameter", "850 kg/m3")],
     &[("weight", "9.00005 kN/m3")],
     &[("friction", "0.123")],
     &[("friction", "0,40")],
     &[("friction", "40 %")],
+    &[("friction", "24°")],
+    &[("friction", "24 deg")],
+    &[("friction", "80 deg")],
+    &[("friction", "90 deg")],
+    &[("friction", "0.4 rad")],
+    &[("friction", "0.005")],
+    &[("friction", "1.005")],
     &[("friction", "656")],
     &[("friction", "low")],
     &[("friction", "-")],
@@ -73,8 +102,90 @@ const BAD: [&[(&str, &str)]; 69] = [
     ],
     &[("weight", "-"), ("ratio", "-"), ("friction", "-"), ("factor", "-"), ("product", "wheat")],
     &[("weight", "-"), ("ratio", "-"), ("friction", "-"), ("factor", "-"), ("wall", "steel")],
+    &[("weight", "-"), ("ratio", "-"), ("friction", "-"), ("product", "wheat"), ("factor", "")],
+    &[("weight", "-"), ("product", "wheat"), ("friction", "")],
+    &[("ratio", "-"), ("product", "corn"), ("wall", "wood")],
+    &[
+        ("weight", "-"),
+        ("ratio", "-"),
+        ("friction", "-"),
+        ("factor", "-"),
+        ("product", "wheat"),
+        ("wall", "corrugated"),
+    ],
+    &[
+        ("weight", "-"),
+        ("ratio", "-"),
+        ("friction", "-"),
+        ("factor", "-"),
+        ("product", "maize"),
+        ("wall", "galvanised steel"),
+    ],
+    &[
+        ("weight", "-"),
+        ("ratio", "-"),
+        ("friction", "-"),
+        ("factor", "-"),
+        ("product", "maize"),
+        ("wall", "bolted, corrugated steel"),
+    ],
+    &[
+        ("weight", "-"),
+        ("ratio", "-"),
+        ("friction", "-"),
+        ("factor", "-"),
+        ("product", "cron"),
+        ("wall", "steel"),
+    ],
+    &[
+        ("weight", "-"),
+        ("ratio", "-"),
+        ("friction", "-"),
+        ("factor", "-"),
+        ("product", "coel"),
+        ("wall", "steel"),
+    ],
+    &[
+        ("weight", "-"),
+        ("ratio", "-"),
+        ("friction", "-"),
+        ("factor", "-"),
+        ("product", "oats"),
+        ("wall", "steel"),
+    ],
+    &[
+        ("weight", "-"),
+        ("ratio", "-"),
+        ("friction", "-"),
+        ("factor", "-"),
+        ("product", "wehat"),
+        ("wall", "steel"),
+    ],
     &[("filling eccentricity", "-"), ("outlet eccentricity", "-")],
     &[("hopper run", "-")],
+    &[("hopper height", "-")],
+    &[("hopper height", "-"), ("hopper run", "-"), ("hopper angle", "45 deg")],
+    &[("hopper height", "-"), ("hopper run", "-"), ("hopper angle", "60 foo")],
+    &[("hopper height", "-"), ("hopper angle", "15 deg")],
+    &[("hopper height", "-"), ("hopper angle", "89 deg")],
+    &[("hopper height", "5 m"), ("hopper run", "-"), ("hopper angle", "60 deg")],
+    &[("hopper height", "5 m"), ("hopper run", "-"), ("hopper angle", "89.999 deg")],
+    &[("hopper run", "-"), ("outlet width", "4999 mm")],
+    &[("hopper run", "-"), ("outlet width", "1 mm")],
+    &[("hopper run", "-"), ("outlet width", "0")],
+    &[("hopper run", "-"), ("outlet width", "5 m")],
+    &[("hopper height", "-"), ("hopper angle", "60 deg")],
+    &[("hopper height", "-"), ("hopper angle", "60")],
+    &[("hopper height", "-"), ("hopper angle", "90 deg")],
+    &[("hopper height", "-"), ("hopper angle", "0 deg")],
+    &[("hopper height", "-"), ("hopper angle", "91 deg")],
+    &[("hopper height", "-"), ("hopper angle", "60.0001 deg")],
+    &[("hopper run", "-"), ("α", "37.5°")],
+    &[("hopper run", "-"), ("outlet width", "601 mm")],
+    &[("hopper run", "-"), ("outlet width", "5001 mm")],
+    &[("outlet width", "600 mm")],
+    &[("hopper angle", "45 deg")],
+    &[("hopper run", "-"), ("outlet width", "600 mm"), ("hopper angle", "45 deg")],
     &[("floor", "flat")],
     &[("hopper run", "-"), ("hopper height", "-"), ("floor", "conical")],
     &[("hopper run", "-"), ("hopper height", "-")],
@@ -82,6 +193,12 @@ const BAD: [&[(&str, &str)]; 69] = [
     &[("strakes", "5 x 2000")],
     &[("strakes", "5 x 2000 mm,")],
     &[("strakes", "5 x 2000 800 mm")],
+    &[("strakes", "2000,2000,2000,2000 mm")],
+    &[("strakes", "1,200, 900 mm")],
+    &[("strakes", "5 x 1200,2 x 1500 mm")],
+    &[("strakes", "8 x 2,000 mm")],
+    &[("strakes", "8 x 2000.5 mm")],
+    &[("strakes", "8 x 2 m each")],
     &[("strakes", "2.5 x 2000 mm")],
     &[("strakes", "0 x 2000 mm")],
     &[("strakes", "40000 x 2000 mm")],
@@ -91,12 +208,27 @@ const BAD: [&[(&str, &str)]; 69] = [
     &[("depths", "every -5 m")],
     &[("depths", "every")],
     &[("depths", "every 1 mm"), ("strakes", "24 x 3 m")],
+    &[("depths", "strake edges"), ("strakes", "20000 x 8 mm")],
+    &[("customer", "a \u{202e}turned name")],
     &[("depths", "every step")],
+    &[("depths", "every 0.1 mm")],
+    &[("depths", "0 to 10 m by 1 m")],
+    &[("depths", "every 1000 m")],
+    &[("depths", "every 10001 mm")],
+    &[("depths", "every 30000 m")],
+    &[("project", "a name of far more than sixty characters, which no title block has room for")],
     &[("depths", "all")],
 ];
 
 /// Texts that no line of `BAD` makes.
-const BROKEN: [&str; 7] = [
+const BROKEN: [&str; 14] = [
+    "diameter -> 5000 mm\nstrakes := 5 x 2 m\nwidth = 5 m\nclient = x\n",
+    "depths = 0, 100, 200, 300, 400, 500, 600, 700, 800, 900, 1000, 1100, 1200, 1300, 1400, 1500, 16OO, 1700 mm\n",
+    "diametr = 5 m\nstrake = 5 x 2 m\nwieght = 9 kN/m3\n",
+    "outlet eccentricity 0 mm\nproject\nhopper run: 2 m\n",
+    "[tower]\ndiameter = 5 m\rdepths = all\rproduct = wheat, barley\n",
+    "product = qqqqqqqqqqqqqqqqqqqqqqqqqqqqqqqqqqqqqqqqqqqqqqqqqqqqqqqqqqqqqqqqqqqqqqqqqqqqqqqqqqqqqqqqqqqqqqqqqqqqqqqqq\n",
+    "product = wheat\nwall = corrugated\nfriction =\nfactor = 0\n",
     "diameter 5000 mm\n",
     "diameter: 5000 mm\n",
     "\n\n# nothing but a comment\n",
@@ -107,7 +239,7 @@ const BROKEN: [&str; 7] = [
 ];
 
 fn unreadable(page: &mut String, text: &str, shown: &str) {
-    let outcome = commands::loads("tower.silo", text.as_bytes(), Format::Table);
+    let outcome = commands::loads("tower.silo", text.as_bytes(), Format::Table, Units::Whole);
     assert_eq!(outcome.status, 2, "{shown}");
     *page += &format!("== {shown}\n{}\n", outcome.messages);
 }
@@ -115,7 +247,7 @@ fn unreadable(page: &mut String, text: &str, shown: &str) {
 #[test]
 fn bad_texts_name_the_line_and_the_mend() {
     let mut page = String::new();
-    for changes in BAD {
+    for changes in BAD.iter().copied() {
         let lines = changes.iter().map(|(name, value)| match *value {
             "-" => format!("no {name}"),
             value => format!("{name} = {value}"),
@@ -129,12 +261,57 @@ fn bad_texts_name_the_line_and_the_mend() {
     stored("host/tests/golden/bad-text.txt", page.as_bytes());
 }
 
+/// A stray control character, and a text in UTF-16 without its mark, are texts and no sheets.
+#[test]
+fn control_characters_have_a_line() {
+    let text = text_with(&[]);
+    let page = |bytes: &[u8]| commands::loads("tower.silo", bytes, Format::Table, Units::Whole);
+    for (byte, name) in [(0x0c, "12"), (0x1a, "26"), (0x1b, "27"), (0, "0")] {
+        let mut bytes = text.clone().into_bytes();
+        bytes.insert(text.find("ratio").expect("a ratio"), byte);
+        let outcome = page(&bytes);
+        assert_eq!(outcome.status, 2);
+        let said = format!("tower.silo:3: control character {name}; take it out, ");
+        assert!(outcome.messages.starts_with(&said), "{}", outcome.messages);
+    }
+    let utf_16: Vec<u8> = text.encode_utf16().flat_map(u16::to_le_bytes).collect();
+    let outcome = page(&utf_16);
+    assert_eq!(outcome.status, 2);
+    assert!(outcome.messages.contains("plain text in UTF-8"), "{}", outcome.messages);
+}
+
+/// An output that is read in place of its silo is known.
+#[test]
+fn outputs_are_no_silos() {
+    let silo = sample("wheat-tower.silo");
+    let formats = [Format::Table, Format::Csv, Format::CsvSemicolon, Format::Json];
+    let mut outputs: Vec<Vec<u8>> = formats
+        .iter()
+        .map(|format| commands::loads("w.silo", &silo, *format, Units::Whole).output)
+        .collect();
+    outputs.push(commands::draw("w.silo", &silo, Units::Whole).output);
+    outputs.extend(formats[..3].iter().map(|format| commands::catalogue(*format).output));
+    for output in outputs {
+        let outcome = commands::loads("out", &output, Format::Table, Units::Whole);
+        assert_eq!(outcome.status, 2);
+        let said = &outcome.messages;
+        assert!(said.starts_with("out: this is ") && said.lines().count() == 1, "{said}");
+        assert!(said.ends_with("; name the silo's text or sheet in its place\n"), "{said}");
+    }
+}
+
 #[test]
 fn a_text_that_is_no_utf8_has_a_line() {
-    let outcome = commands::loads("tower.silo", b"# tower\ndiameter = 5 m \xb3\n", Format::Table);
+    let outcome = commands::loads(
+        "tower.silo",
+        b"# tower\ndiameter = 5 m \xb3\n",
+        Format::Table,
+        Units::Whole,
+    );
     assert_eq!(outcome.status, 2);
     assert_eq!(outcome.messages, "tower.silo:2: not UTF-8 text; save the file as UTF-8\n");
-    let utf_16 = commands::loads("tower.silo", b"\xff\xfed\x00 \x00=\x00", Format::Table);
+    let utf_16 =
+        commands::loads("tower.silo", b"\xff\xfed\x00 \x00=\x00", Format::Table, Units::Whole);
     assert_eq!(utf_16.messages, "tower.silo:1: not UTF-8 text; save the file as UTF-8\n");
 }
 
@@ -197,7 +374,8 @@ fn lists_are_exact() {
         ("7000, 10, 10 mm", vec![7000, 10, 10]),
         ("every 4 m", vec![0, 4000, 8000, 10000]),
         ("every 5000 mm", vec![0, 5000, 10000]),
-        ("every 20 m", vec![0, 10000]),
+        ("every 10 m", vec![0, 10000]),
+        ("every 10000.000 mm", vec![0, 10000]),
         ("Every 5 m", vec![0, 5000, 10000]),
         ("Strake edges", vec![0, 2000, 4000, 6000, 8000, 10000]),
         ("at strake edges", vec![0, 2000, 4000, 6000, 8000, 10000]),
@@ -292,7 +470,8 @@ fn damaged_texts_give_errors_with_lines_and_never_a_panic() {
             Ok(silo) => {
                 read += 1;
                 let sheet = silo.description.to_bytes();
-                let outcome = commands::loads("damaged.silo", text.as_bytes(), Format::Table);
+                let outcome =
+                    commands::loads("damaged.silo", text.as_bytes(), Format::Table, Units::Whole);
                 let refused = silo::library::answers_length(&sheet).is_err();
                 assert_eq!(outcome.status, u8::from(refused), "{text}");
                 accepted += u32::from(!refused);
@@ -300,7 +479,7 @@ fn damaged_texts_give_errors_with_lines_and_never_a_panic() {
             Err(errors) => {
                 unread += 1;
                 assert!(!errors.is_empty(), "{text}");
-                let lines = text.lines().count();
+                let lines = text.split(['\n', '\r']).count();
                 let named = errors.iter().all(|error| names_a_line(error, lines));
                 assert!(named, "{errors:?}\n{text}");
             }

@@ -1,9 +1,11 @@
 //! Pressures over depth.
 
-use super::layout::{grouped, round_step, Layout, BRIM, CHART};
+use super::layout::{round_step, Layout, CHART, WIDE};
+use super::shown::{grouped, round_pressure};
 use super::svg::Svg;
 use crate::description::Description;
 use crate::library::Loads;
+use crate::report::Report;
 
 /// A pressure's place in a depth's row, its name, and the classes of its line.
 pub struct Curve {
@@ -22,25 +24,39 @@ const fn curve(
     Curve { place, name, words, class }
 }
 
-pub const CURVES: [Curve; 4] = [
+pub const CURVES: [Curve; 5] = [
     curve(1, "p_hf", "horizontal, filling", "horizontal filling"),
-    curve(5, "p_he", "horizontal, discharge", "horizontal"),
-    curve(2, "p_wf", "friction, filling", "friction filling"),
-    curve(6, "p_we", "friction, discharge", "friction"),
+    curve(5, "p_he", "horizontal, discharge, without p_p", "horizontal"),
+    curve(2, "p_wf", "wall friction, filling", "friction filling"),
+    curve(6, "p_we", "wall friction, discharge", "friction"),
+    curve(7, "p_p", "patch load, discharge", "patch"),
 ];
 
-pub fn draw(svg: &mut Svg, silo: &Description, layout: &Layout, curves: &Loads) {
-    let pressures = curves.rows().flat_map(|row| CURVES.map(|curve| row[curve.place]));
-    let greatest = f64::from(pressures.max().unwrap_or(1).max(1));
-    let step = round_step(greatest, 5.0);
+/// Strakes' numbers stand at least so far from each other.
+const APART: f64 = 11.0;
+
+/// Of all pressures in the chart, Pa; at least 1.
+pub fn greatest(curves: &Loads) -> u32 {
+    let pressures = curves.rows().flat_map(|row| CURVES.each_ref().map(|curve| row[curve.place]));
+    pressures.max().unwrap_or(1).max(1)
+}
+
+pub fn draw(svg: &mut Svg, report: &Report, layout: &Layout, curves: &Loads) {
+    let greatest = greatest(curves);
+    let parts = if greatest < WIDE { 5.0 } else { 4.0 };
+    let greatest = f64::from(greatest);
+    let step = round_step(greatest, parts);
     let scale = (CHART.1 - CHART.0) / (greatest / step).ceil() / step;
-    pressure_axis(svg, layout, step, scale);
+    pressure_axis(svg, report, layout, (step, scale));
     depth_axis(svg, layout);
+    if !layout.is_aligned() {
+        own_depths(svg, report.silo, layout);
+    }
     let point = |row: &[u32], curve: &Curve| {
         let pressure = f64::from(row[curve.place]);
         (CHART.0 + pressure * scale, layout.chart_y(f64::from(row[0])))
     };
-    let is_edge = |z: u32| silo.edges().any(|(_, edge)| edge == u64::from(z));
+    let is_edge = |z: u32| report.silo.edges().any(|(_, edge)| edge == u64::from(z));
     for curve in &CURVES {
         let points: Vec<(f64, f64)> = curves.rows().map(|row| point(row, curve)).collect();
         svg.polyline(curve.class, &points);
@@ -48,21 +64,21 @@ pub fn draw(svg: &mut Svg, silo: &Description, layout: &Layout, curves: &Loads) 
             svg.dot(curve.class, point(row, curve));
         }
     }
-    legend(svg);
+    legend(svg, layout);
 }
 
-fn pressure_axis(svg: &mut Svg, layout: &Layout, step: f64, scale: f64) {
-    let foot = layout.chart_y(layout.wall);
+fn pressure_axis(svg: &mut Svg, report: &Report, layout: &Layout, (step, scale): (f64, f64)) {
+    let (brim, foot) = (layout.brim, layout.chart_y(layout.wall));
     let mut pressure = 0.0;
     while pressure * scale <= CHART.1 - CHART.0 + 0.5 {
         let x = CHART.0 + pressure * scale;
-        svg.line("grid", (x, BRIM - 4.0), (x, foot));
-        svg.text("middle", (x, BRIM - 8.0), &grouped(pressure as u64));
+        svg.line("grid", (x, brim - 4.0), (x, foot));
+        svg.text("middle", (x, brim - 8.0), &round_pressure(report.units, pressure as u32));
         pressure += step;
     }
-    svg.text("middle head", ((CHART.0 + CHART.1) / 2.0, BRIM - 24.0), "pressure on the wall, Pa");
-    let corners = [(CHART.0, foot), (CHART.0, BRIM), (CHART.1, BRIM), (CHART.1, foot)];
-    svg.polygon("frame", &corners);
+    let head = format!("pressure on the wall, {}", report.units.pressure());
+    svg.text("middle head", ((CHART.0 + CHART.1) / 2.0, brim - 24.0), &head);
+    svg.rectangle("frame", (CHART.0, brim), (CHART.1, foot));
 }
 
 fn depth_axis(svg: &mut Svg, layout: &Layout) {
@@ -71,19 +87,33 @@ fn depth_axis(svg: &mut Svg, layout: &Layout) {
     while depth <= layout.wall {
         let y = layout.chart_y(depth);
         svg.line("frame", (CHART.1, y), (CHART.1 + 4.0, y));
-        svg.text("start", (CHART.1 + 8.0, y + 3.5), &grouped(depth as u64));
+        svg.text("start", (CHART.1 + 7.0, y + 3.5), &grouped(depth as u64));
         depth += step;
     }
     let middle = layout.chart_y(layout.wall / 2.0);
-    svg.upright("middle head", (CHART.1 + 56.0, middle), "depth z below the brim, mm");
+    svg.upright("middle head", (CHART.1 + 53.0, middle), "depth z below the brim, mm");
 }
 
-/// Above the chart, in two columns.
-fn legend(svg: &mut Svg) {
+/// The strakes' numbers at their edges, and that the chart's depths are not the silo's.
+fn own_depths(svg: &mut Svg, silo: &Description, layout: &Layout) {
+    let mut before = f64::MIN;
+    for (i, (_, edge)) in silo.edges().enumerate() {
+        let y = layout.chart_y(edge as f64);
+        if y - before >= APART {
+            svg.text("end small", (CHART.0 - 5.0, y + 3.5), &(i + 1).to_string());
+            before = y;
+        }
+    }
+    let words = "The chart has a depth scale of its own.";
+    svg.text("start small", (CHART.0, layout.chart_y(layout.wall) + 16.0), words);
+}
+
+/// Above the chart.
+fn legend(svg: &mut Svg, layout: &Layout) {
     for (i, curve) in CURVES.iter().enumerate() {
-        let x = CHART.0 + 180.0 * (i / 2) as f64;
-        let y = 102.0 + 16.0 * (i % 2) as f64;
-        svg.line(curve.class, (x, y - 4.0), (x + 30.0, y - 4.0));
-        svg.text("start", (x + 36.0, y), &format!("{} {}", curve.name, curve.words));
+        let y = layout.brim - 96.0 + 13.5 * i as f64;
+        svg.line(curve.class, (CHART.0, y - 4.0), (CHART.0 + 26.0, y - 4.0));
+        svg.text("start", (CHART.0 + 32.0, y), curve.name);
+        svg.text("start", (CHART.0 + 62.0, y), curve.words);
     }
 }

@@ -1,45 +1,111 @@
-//! Where the parts of the page stand, in pixels, and the scales from mm and Pa.
+//! Where the parts of the page stand, in pixels, and the scales from mm.
 
+use super::svg::Point;
 use crate::description::Description;
 
-/// The brim, in the silo and in the chart.
-pub const BRIM: f64 = 168.0;
-/// The lowest point of silo and chart.
-const LOWEST: f64 = 706.0;
+/// The margins, at least 10 mm, which are 37.8.
+pub const LEFT: f64 = 40.0;
+pub const RIGHT: f64 = 1082.0;
+pub const TOP: f64 = 38.0;
+pub const BOTTOM: f64 = 755.0;
 /// The silo stands between these.
-const SILO: (f64, f64) = (118.0, 378.0);
-/// The columns of the strakes' table: strake, edge, p_hf, p_he, p_wf, p_we; each is flush right.
-pub const COLUMNS: [f64; 6] = [434.0, 480.0, 538.0, 598.0, 651.0, 704.0];
-pub const TABLE: (f64, f64) = (396.0, 709.0);
+const SILO: Point = (134.0, 350.0);
+/// Lines from the silo to the table are level as far as this.
+pub const GUTTER: f64 = 368.0;
+pub const TABLE: Point = (382.0, 758.0);
+/// The columns of the strakes' table: strake, edge and five pressures; each is flush right.
+pub const COLUMNS: [f64; 7] = [421.0, 470.0, 527.0, 584.0, 641.0, 698.0, 755.0];
 /// The chart's pressures go from left to right.
-pub const CHART: (f64, f64) = (742.0, 1042.0);
-/// A wall drawn lower than this has a chart of its own scale.
-const LOWEST_CHART: f64 = 330.0;
-const OWN_CHART: f64 = 460.0;
-/// Between the lines of the strakes' table.
-pub const LINE: f64 = 13.0;
+pub const CHART: Point = (778.0, 1019.0);
+/// A wall drawn lower than this has a chart of its own scale, at most so high.
+const LOWEST_CHART: f64 = 200.0;
+const OWN_CHART: f64 = 360.0;
+/// Between the lines of the tables, where there is room.
+const LINE: f64 = 13.0;
+/// Below this the tables have a smaller type.
+const TIGHT: f64 = 12.0;
+/// From this pressure on, Pa, numbers are wide.
+pub const WIDE: u32 = 1_000_000;
+/// So near the lines come together to stand beside the wall, and the chart with them.
+const TIGHTEST: f64 = 10.5;
+/// From the brim to the first row.
+const FIRST: f64 = 8.0;
+/// From the last strake's row to the hopper's first, for the head between them.
+pub const HOPPER_HEAD: f64 = 43.0;
+/// Below the outlet: arrow, dimensions and their texts.
+const BELOW_OUTLET: f64 = 62.0;
+/// Below a flat floor: arrow and load.
+const BELOW_FLOOR: f64 = 30.0;
+/// Points on the hopper's slope.
+const POINTS: usize = 5;
 
 pub struct Layout {
+    /// The brim, in the silo and in the chart.
+    pub brim: f64,
     /// Pixels for each mm of the silo.
-    pub scale: f64,
-    /// The silo's axis.
-    pub axis: f64,
+    scale: f64,
     /// Pixels for each mm of depth in the chart.
-    pub depth_scale: f64,
+    depth_scale: f64,
     /// V, mm
     pub wall: f64,
+    /// The rows of the strakes, top first, and of the hopper's slope, from the wall's foot down.
+    pub strake_rows: Vec<f64>,
+    pub hopper_rows: Vec<f64>,
+    line: f64,
+}
+
+/// The silo's lines.
+pub struct Outline {
+    pub left: f64,
+    pub right: f64,
+    pub axis: f64,
+    pub brim: f64,
+    /// Of the grain, at the wall.
+    pub surface: f64,
+    pub foot: f64,
+    /// The outlet's height and its ends; a flat floor's is the foot.
+    pub outlet: f64,
+    pub outlet_left: f64,
+    pub outlet_right: f64,
 }
 
 impl Layout {
-    pub fn of(silo: &Description) -> Layout {
+    /// Silo, tables and chart between the brim and `lowest`.
+    pub fn of(silo: &Description, brim: f64, lowest: f64) -> Layout {
         let (wall, height) = (silo.wall_height() as f64, silo.height() as f64);
         let width = f64::from(silo.section.shorter_side());
-        let scale = ((LOWEST - BRIM) / height).min((SILO.1 - SILO.0) / width);
-        let depth_scale = match wall * scale < LOWEST_CHART {
-            true => OWN_CHART / wall,
-            false => scale,
+        let (room, strakes) = (lowest - brim, silo.strakes.len() as f64);
+        let (below, head, points) = match silo.is_flat() {
+            true => (BELOW_FLOOR, BELOW_FLOOR, 0),
+            false => (BELOW_OUTLET, HOPPER_HEAD, POINTS),
         };
-        Layout { scale, axis: (SILO.0 + SILO.1) / 2.0, depth_scale, wall }
+        let line = LINE.min((room - FIRST - head - 6.0) / (strakes - 1.0 + points as f64));
+        let beside = head + line * points as f64;
+        let scale =
+            ((room - below) / height).min((room - beside) / wall).min((SILO.1 - SILO.0) / width);
+        let line = line.min(((wall * scale - FIRST) / (strakes - 1.0)).max(TIGHTEST));
+        let rows_fit = FIRST + line * (strakes - 1.0) <= wall * scale + 0.1;
+        let depth_scale = match rows_fit && wall * scale >= LOWEST_CHART {
+            true => scale,
+            false => OWN_CHART.min(room - BELOW_FLOOR) / wall,
+        };
+        let (strake_rows, hopper_rows) = (Vec::new(), Vec::new());
+        let mut layout = Layout { brim, scale, depth_scale, wall, strake_rows, hopper_rows, line };
+        layout.place_rows(silo, lowest);
+        layout
+    }
+
+    /// Each row as near to its strake's edge or to its point of the slope as the others let it.
+    fn place_rows(&mut self, silo: &Description, lowest: f64) {
+        let edges: Vec<f64> = silo.edges().map(|(_, edge)| self.silo_y(edge as f64)).collect();
+        let first = self.brim + FIRST;
+        let last = self.silo_y(self.wall).max(first + self.line * (edges.len() - 1) as f64);
+        self.strake_rows = apart(&edges, self.line, (first, last));
+        if !silo.is_flat() {
+            let points: Vec<f64> = self.slope(silo).iter().rev().map(|point| point.1).collect();
+            let ends = (last + HOPPER_HEAD, lowest - 4.0);
+            self.hopper_rows = apart(&points, self.line, ends);
+        }
     }
 
     /// Silo and chart have one scale of depth.
@@ -47,33 +113,74 @@ impl Layout {
         self.scale == self.depth_scale
     }
 
+    /// A length in the silo, mm, in pixels.
+    pub fn length(&self, length: u32) -> f64 {
+        f64::from(length) * self.scale
+    }
+
     /// The height of a depth in the silo.
     pub fn silo_y(&self, depth: f64) -> f64 {
-        BRIM + depth * self.scale
+        self.brim + depth * self.scale
     }
 
     /// The height of a depth in the chart.
     pub fn chart_y(&self, depth: f64) -> f64 {
-        BRIM + depth * self.depth_scale
+        self.brim + depth * self.depth_scale
+    }
+
+    /// The class of a table's cells; the greatest pressure in it is in Pa.
+    pub fn cells(&self, greatest: u32) -> &'static str {
+        if self.line < TIGHT || greatest >= WIDE {
+            "end tight"
+        } else {
+            "end"
+        }
+    }
+
+    pub fn outline(&self, silo: &Description) -> Outline {
+        let axis = (SILO.0 + SILO.1) / 2.0;
+        let half = self.length(silo.section.shorter_side()) / 2.0;
+        let outlet_half = half - self.length(silo.hopper_run);
+        let foot = self.silo_y(self.wall);
+        Outline {
+            left: axis - half,
+            right: axis + half,
+            axis,
+            brim: self.brim,
+            surface: self.brim,
+            foot,
+            outlet: foot + self.length(silo.hopper_height),
+            outlet_left: axis - outlet_half,
+            outlet_right: axis + outlet_half,
+        }
+    }
+
+    /// The five points on the slope at the right, counted up from the outlet.
+    pub fn slope(&self, silo: &Description) -> [Point; POINTS] {
+        let Outline { right, foot, outlet, outlet_right, .. } = self.outline(silo);
+        std::array::from_fn(|k| {
+            let part = k as f64 / (POINTS - 1) as f64;
+            (outlet_right + (right - outlet_right) * part, outlet + (foot - outlet) * part)
+        })
     }
 }
 
-/// Rows moved apart as little as is needed to stand at least `LINE` from each other, in the same order, between the brim and
-/// `last`: rows that are too near share their mean place.
-pub fn apart(rows: &[f64], last: f64) -> Vec<f64> {
+/// Rows moved apart as little as is needed to stand at least `line` from each other, in the same
+/// order, between two ends: rows that are too near share their mean place.
+fn apart(rows: &[f64], line: f64, (first, last): Point) -> Vec<f64> {
     let mut groups: Vec<(f64, usize)> = Vec::new();
     for (i, row) in rows.iter().enumerate() {
-        let mut group = (row - LINE * i as f64, 1);
+        let mut group = (row - line * i as f64, 1);
         while let Some((mean, count)) = groups.pop_if(|before| before.0 > group.0) {
             let total = mean * count as f64 + group.0 * group.1 as f64;
             group = (total / (count + group.1) as f64, count + group.1);
         }
         groups.push(group);
     }
-    let highest = last - LINE * (rows.len() - 1) as f64;
+    let highest = last - line * (rows.len() - 1) as f64;
     let places = groups.iter().flat_map(|(mean, count)| vec![*mean; *count]);
-    let within = places.map(|place| place.min(highest).max(BRIM + 6.0));
-    within.enumerate().map(|(i, place)| place + LINE * i as f64).collect()
+    let within = places.map(|place| place.min(highest).max(first));
+    within.enumerate().map(|(i, place)| place + line * i as f64).collect()
 }
 
 /// The least of 1, 2 and 5 times a power of ten that goes into `most` at most `parts` times.
@@ -84,15 +191,42 @@ pub fn round_step(most: f64, parts: f64) -> f64 {
     steps.into_iter().find(|step| *step >= least).unwrap_or(10.0 * power)
 }
 
-/// A whole number with its digits in threes.
-pub fn grouped(number: u64) -> String {
-    let digits = number.to_string();
-    let mut text = String::new();
-    for (i, digit) in digits.chars().enumerate() {
-        if i > 0 && (digits.len() - i).is_multiple_of(3) {
-            text.push('\u{2009}');
+#[cfg(test)]
+mod tests {
+    use super::*;
+    use crate::description::{Product, Section};
+
+    fn silo(width: u32, strakes: Vec<u16>, (hopper_height, hopper_run): (u32, u32)) -> Description {
+        Description {
+            section: Section::Circle(width),
+            product: Product { weight: 9000, ratio: 50, friction: 40, factor: 140 },
+            filling_eccentricity: 0,
+            outlet_eccentricity: 0,
+            hopper_height,
+            hopper_run,
+            strakes,
+            depths: vec![0],
         }
-        text.push(digit);
     }
-    text
+
+    /// More strakes than a sheet may have, and walls wider than high: every row between brim and
+    /// foot of the page, in order and apart, and the silo between its sides.
+    #[test]
+    fn rows_fit() {
+        let walls =
+            [vec![1200; 40], vec![200; 24], vec![200], [vec![3000; 3], vec![200; 37]].concat()];
+        for (strakes, bottom) in walls.iter().flat_map(|wall| [(wall, (0, 0)), (wall, (900, 900))])
+        {
+            for width in [2000, 50_000] {
+                let silo = silo(width, strakes.clone(), bottom);
+                let layout = Layout::of(&silo, 150.0, 625.0);
+                let rows = [layout.strake_rows.clone(), layout.hopper_rows.clone()].concat();
+                assert!(rows.windows(2).all(|pair| pair[1] - pair[0] >= 9.49), "{rows:?}");
+                assert!(rows[0] > 150.0 && rows[rows.len() - 1] < 625.0, "{rows:?}");
+                let outline = layout.outline(&silo);
+                assert!(outline.left >= SILO.0 - 0.1 && outline.right <= SILO.1 + 0.1);
+                assert!(outline.outlet < 625.0 && layout.chart_y(layout.wall) < 625.0);
+            }
+        }
+    }
 }

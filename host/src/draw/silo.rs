@@ -1,121 +1,131 @@
 //! The silo to scale: grain, strakes, bottom, dimensions, filling and outlet.
 
-use super::layout::{grouped, Layout, BRIM};
-use super::svg::Svg;
+use super::hopper;
+use super::layout::{Layout, Outline};
+use super::shown::length;
+use super::svg::{Point, Svg};
 use crate::description::{Description, Section};
 
 /// A strake drawn lower than this carries no number.
 const LEAST_NUMBERED: f64 = 12.0;
+/// Length of the arrows of filling and outlet.
+const ARROW: f64 = 24.0;
 
 pub fn draw(svg: &mut Svg, silo: &Description, layout: &Layout) {
-    let half = f64::from(silo.section.shorter_side()) * layout.scale / 2.0;
-    let (left, right) = (layout.axis - half, layout.axis + half);
-    let foot = layout.silo_y(layout.wall);
-    let outlet_half = half - f64::from(silo.hopper_run) * layout.scale;
-    let outlet = foot + f64::from(silo.hopper_height) * layout.scale;
-    let outline = match silo.is_flat() {
-        true => vec![(left, BRIM), (left, foot), (right, foot), (right, BRIM)],
-        false => vec![
-            (left, BRIM),
-            (left, foot),
-            (layout.axis - outlet_half, outlet),
-            (layout.axis + outlet_half, outlet),
-            (right, foot),
-            (right, BRIM),
-        ],
-    };
-    svg.polygon("grain", &outline);
-    strakes(svg, silo, layout, (left, right));
-    svg.line("axis", (layout.axis, BRIM - 12.0), (layout.axis, outlet + 12.0));
+    let outline = &layout.outline(silo);
+    let Outline { left, right, axis, brim, surface, foot, outlet, .. } = *outline;
+    let bottom = [
+        (left, foot),
+        (outline.outlet_left, outlet),
+        (outline.outlet_right, outlet),
+        (right, foot),
+    ];
+    svg.polygon("grain", &[&[(left, surface)], &bottom[..], &[(right, surface)]].concat());
+    strakes(svg, silo, layout, outline);
+    svg.line("axis", (axis, brim - ARROW), (axis, outlet + ARROW));
+    let wall = [&[(left, brim)], &bottom[..], &[(right, brim)]].concat();
     match silo.is_flat() {
-        true => svg.polyline("wall", &outline),
+        true => svg.polyline("wall", &wall),
         false => {
-            svg.polyline("wall", &outline[..3]);
-            svg.polyline("wall", &outline[3..]);
-            quarters(svg, (layout.axis + outlet_half, outlet), (right, foot));
+            svg.polyline("wall", &wall[..3]);
+            svg.polyline("wall", &wall[3..]);
+            hopper::draw(svg, silo, outline);
         }
     }
-    width(svg, silo, (left, right));
-    heights(svg, silo, (left, foot, outlet));
-    openings(svg, silo, layout, outlet);
+    across(svg, silo, outline);
+    heights(svg, silo, outline);
+    filling(svg, silo, layout, outline);
+    outflow(svg, silo, layout, outline);
 }
 
-fn strakes(svg: &mut Svg, silo: &Description, layout: &Layout, (left, right): (f64, f64)) {
+fn strakes(svg: &mut Svg, silo: &Description, layout: &Layout, outline: &Outline) {
     let last = silo.strakes.len() - 1;
     for (i, (height, edge)) in silo.edges().enumerate() {
         let lower = layout.silo_y(edge as f64);
-        let upper = lower - f64::from(height) * layout.scale;
+        let upper = lower - layout.length(height.into());
         if i < last || !silo.is_flat() {
-            svg.line("edge", (left, lower), (right, lower));
+            svg.line("edge", (outline.left, lower), (outline.right, lower));
         }
         if lower - upper >= LEAST_NUMBERED {
-            let middle = (left + 10.0, (lower + upper) / 2.0 + 3.5);
+            let middle = (outline.left + 10.0, (lower + upper) / 2.0 + 3.5);
             svg.text("middle", middle, &(i + 1).to_string());
         }
     }
 }
 
-/// The five points on the hopper's slope, counted up from the outlet.
-fn quarters(svg: &mut Svg, outlet: (f64, f64), foot: (f64, f64)) {
-    let room = (outlet.1 - foot.1) / 4.0 >= 11.0;
-    for k in 0..5 {
-        let part = f64::from(k) / 4.0;
-        let point = (outlet.0 + (foot.0 - outlet.0) * part, outlet.1 + (foot.1 - outlet.1) * part);
-        svg.line("frame", point, (point.0 + 5.0, point.1));
-        if room || k == 0 {
-            let name = if k == 0 { "k = 0".to_string() } else { k.to_string() };
-            // the last stands below the line to the wall's foot
-            let lower = if k == 4 { 11.0 } else { 3.5 };
-            svg.text("start small", (point.0 + 8.0, point.1 + lower), &name);
-        }
-    }
-}
-
-fn width(svg: &mut Svg, silo: &Description, (left, right): (f64, f64)) {
-    let y = BRIM - 34.0;
+/// The diameter or the shorter side.
+fn across(svg: &mut Svg, silo: &Description, outline: &Outline) {
+    let Outline { left, right, axis, brim, .. } = *outline;
+    let y = brim - 38.0;
     svg.dimension((left, y), (right, y));
     for x in [left, right] {
-        svg.line("dimension", (x, y - 4.0), (x, y + 4.0));
+        svg.line("extension", (x, y - 4.0), (x, brim - 3.0));
     }
     let text = match silo.section {
-        Section::Circle(d) => format!("d {} mm", grouped(d.into())),
+        Section::Circle(d) => format!("d {}", length(d)),
         Section::Rectangle(a, b) => {
             let name = if a <= b { "a" } else { "b" };
-            format!("side {name} {} mm", grouped(a.min(b).into()))
+            format!("side {name} {}", length(a.min(b)))
         }
     };
-    svg.text("middle", ((left + right) / 2.0, y - 6.0), &text);
+    svg.text("middle", (axis, y - 6.0), &text);
 }
 
-fn heights(svg: &mut Svg, silo: &Description, (left, foot, outlet): (f64, f64, f64)) {
+fn heights(svg: &mut Svg, silo: &Description, outline: &Outline) {
+    let Outline { left, brim, foot, outlet, outlet_left, .. } = *outline;
     let x = left - 16.0;
-    let parts =
-        [("V", BRIM, foot, silo.wall_height()), ("H", foot, outlet, silo.hopper_height.into())];
-    for (name, upper, lower, length) in parts {
-        if length == 0 {
+    let hopper = silo.hopper_height.into();
+    // the hopper's text stands above the angle's
+    let parts = [
+        ("V", (brim, foot), silo.wall_height(), left, foot),
+        ("H", (foot, outlet), hopper, outlet_left, outlet - 3.5),
+    ];
+    for (name, (upper, lower), height, end, lowest) in parts {
+        if height == 0 {
             continue;
         }
         svg.dimension((x, upper), (x, lower));
-        for y in [upper, lower] {
-            svg.line("dimension", (x - 4.0, y), (left - 4.0, y));
-        }
-        let middle = (x - 6.0, (upper + lower) / 2.0 + 3.5);
-        svg.text("end", middle, &format!("{name} {} mm", grouped(length)));
+        svg.line("extension", (x - 4.0, upper), (left - 3.0, upper));
+        svg.line("extension", (x - 4.0, lower), (end - 3.0, lower));
+        let middle = ((upper + lower) / 2.0).min(lowest) + 3.5;
+        svg.text("end", (x - 6.0, middle), &format!("{name} {}", length(height)));
     }
 }
 
-/// Arrows where the grain comes in and goes out, with their eccentricities.
-fn openings(svg: &mut Svg, silo: &Description, layout: &Layout, outlet: f64) {
-    let places = [
-        ("e_i", silo.filling_eccentricity, BRIM - 24.0, BRIM - 2.0),
-        ("e_o", silo.outlet_eccentricity, outlet + 3.0, outlet + 24.0),
-    ];
-    for (name, eccentricity, from, to) in places {
-        let x = layout.axis + f64::from(eccentricity) * layout.scale;
-        svg.arrow((x, from), (x, to));
-        if eccentricity > 0 {
-            let text = format!("{name} {} mm", grouped(eccentricity.into()));
-            svg.text("start small", (x + 6.0, (from + to) / 2.0 + 3.0), &text);
-        }
+/// An eccentricity from the axis to `x`, its text behind it.
+fn eccentricity(svg: &mut Svg, name: &str, distance: u32, (axis, x): Point, y: f64) {
+    svg.dimension((axis, y), (x, y));
+    let start = (x + Svg::clear_of(x - axis), y + 3.5);
+    svg.over("start", start, &format!("{name} {}", length(distance)));
+}
+
+/// Where the grain comes in: an arrow that ends on its surface.
+fn filling(svg: &mut Svg, silo: &Description, layout: &Layout, outline: &Outline) {
+    let x = outline.axis + layout.length(silo.filling_eccentricity);
+    if silo.filling_eccentricity > 0 {
+        let y = outline.surface - 15.0;
+        eccentricity(svg, "e_i", silo.filling_eccentricity, (outline.axis, x), y);
     }
+    svg.arrow((x, outline.surface - ARROW), (x, outline.surface));
+}
+
+/// Where the grain goes out: an arrow from the floor or the outlet, at the axis where the outlet
+/// does not reach the eccentricity.
+fn outflow(svg: &mut Svg, silo: &Description, layout: &Layout, outline: &Outline) {
+    let Outline { axis, outlet, .. } = *outline;
+    let eccentric = axis + layout.length(silo.outlet_eccentricity);
+    let y = outlet + 13.0;
+    if silo.outlet_eccentricity > 0 {
+        eccentricity(svg, "e_o", silo.outlet_eccentricity, (axis, eccentric), y);
+    }
+    let x = match silo.outlet_is_passed() {
+        true => {
+            svg.line("frame", (eccentric, y - 7.0), (eccentric, y + 7.0));
+            let words = "hopper calculated as symmetric";
+            svg.text("middle small", (axis, outlet + 58.0), words);
+            axis
+        }
+        false => eccentric,
+    };
+    svg.arrow((x, outlet + 1.0), (x, outlet + ARROW));
 }

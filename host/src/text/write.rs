@@ -21,7 +21,12 @@ pub fn write(description: &Description) -> String {
         lines.push((Name::Floor, "flat".to_string()));
     } else {
         lines.push((Name::HopperHeight, length(description.hopper_height)));
-        lines.push((Name::HopperRun, length(description.hopper_run)));
+        let outlet = format!(
+            "  # {} degrees, outlet {} mm",
+            description.degrees(),
+            description.outlet_width()
+        );
+        lines.push((Name::HopperRun, length(description.hopper_run) + &outlet));
     }
     lines.push((Name::Strakes, runs(&description.strakes) + " mm"));
     lines.push((Name::Depths, depths::written(description)));
@@ -29,14 +34,17 @@ pub fn write(description: &Description) -> String {
 }
 
 fn product_lines(product: &Product) -> [(Name, String); 4] {
-    let named = catalogue::name_of(product).map(|name| format!("  # {name}, table 7.1"));
-    let blank = if product.factor == 0 { "  # blank: the library takes 1.35" } else { "" };
+    let named = catalogue::name_of(product).map(|name| format!("  # as table 7.1 {name}"));
     let ratio = |number: u16| hundredths(number.into());
+    let blank = match product.factor {
+        0 => format!("  # blank: the library takes {}", ratio(product.factor_used())),
+        _ => String::new(),
+    };
     [
         (Name::Weight, format!("{} N/m3{}", product.weight, named.unwrap_or_default())),
         (Name::Ratio, ratio(product.ratio)),
         (Name::Friction, ratio(product.friction)),
-        (Name::Factor, ratio(product.factor) + blank),
+        (Name::Factor, ratio(product.factor) + &blank),
     ]
 }
 

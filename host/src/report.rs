@@ -1,0 +1,138 @@
+//! What every output says: the silo with its loads, the order's own lines, where the product's numbers come from, and what the
+//! loads leave out.
+
+use crate::catalogue::Origin;
+use crate::description::{Description, Section};
+use crate::library::{Loads, ROW};
+use crate::number::hundredths;
+use crate::units::Units;
+
+/// The program that wrote an output, and its rules.
+pub const PROGRAM: &str = concat!("silo ", env!("CARGO_PKG_VERSION"), ", ENV 1991-4:1995");
+
+/// Lines of a text about the order, such as project and customer: a name and what it says.
+pub type Labels = Vec<(&'static str, String)>;
+
+pub struct Report<'a> {
+    pub file: &'a str,
+    pub silo: &'a Description,
+    pub origin: &'a Origin,
+    pub labels: &'a Labels,
+    pub loads: &'a Loads,
+    pub units: Units,
+}
+
+impl Report<'_> {
+    /// The product's numbers and where they come from.
+    pub fn product(&self) -> String {
+        let product = &self.silo.product;
+        let ratio = |number: u16| hundredths(number.into());
+        let used = ratio(product.factor_used());
+        let factor = match product.factor {
+            0 => format!("blank, taken as {used}"),
+            _ => used,
+        };
+        format!(
+            "{}: weight {} N/m3, ratio Ks {}, friction mu {}, factor C0 {factor}",
+            self.origin.shown(product),
+            product.weight,
+            ratio(product.ratio),
+            ratio(product.friction),
+        )
+    }
+
+    /// A depth's numbers as ENV names them, and their units.
+    pub fn columns(&self) -> [(&'static str, &'static str); ROW] {
+        let (pressure, per_metre) = (self.units.pressure(), self.units.per_metre());
+        [
+            ("z", "mm"),
+            ("p_hf", pressure),
+            ("p_wf", pressure),
+            ("p_vf", pressure),
+            ("P_w", per_metre),
+            ("p_he", pressure),
+            ("p_we", pressure),
+            ("p_p", pressure),
+        ]
+    }
+
+    /// A depth's numbers as they are written: z in mm, then its loads.
+    pub fn row(&self, numbers: &[u32]) -> Vec<String> {
+        let loads = numbers.iter().skip(1).map(|load| self.units.show(*load));
+        numbers.iter().take(1).map(u32::to_string).chain(loads).collect()
+    }
+
+    /// What the loads leave out, as far as it applies to this silo.
+    pub fn notes(&self) -> Vec<String> {
+        let silo = self.silo;
+        let notes = [
+            Some(EDITION.to_string()),
+            self.origin.has_friction_on_steel(&silo.product).then(|| friction(silo)),
+            Some(WALL_LOAD.to_string()),
+            Some(patch(silo)),
+            (!silo.is_flat()).then(|| TRANSITION.to_string()),
+            silo.outlet_is_passed().then(|| eccentricity(silo)),
+        ];
+        notes.into_iter().flatten().collect()
+    }
+}
+
+const EDITION: &str =
+    "ENV 1991-4:1995, which EN 1991-4:2006 has replaced; characteristic values without partial factors.";
+const WALL_LOAD: &str =
+    "P_w is the filling value; on discharge the factor on wall friction, 1.1, applies to it too (5.20).";
+const TRANSITION: &str =
+    "Hopper: without the extra pressure at the transition of a mass-flow hopper (5.26), which these rules do not cover.";
+
+fn friction(silo: &Description) -> String {
+    format!(
+        "Friction {} is that of table 7.1 on steel; it does not hold for corrugated walls (note 4 to the table).",
+        hundredths(silo.product.friction.into())
+    )
+}
+
+fn eccentricity(silo: &Description) -> String {
+    format!(
+        "The outlet's eccentricity of {} mm lies beyond the outlet's own edge: the hopper is calculated as symmetric.",
+        silo.outlet_eccentricity
+    )
+}
+
+/// Where the patch load acts (5.2.1.1 and 5.24).
+fn patch(silo: &Description) -> String {
+    let side = tenths(2 * u64::from(silo.section.shorter_side()));
+    let place = match silo.section {
+        Section::Circle(_) => {
+            format!(
+                "a band s = {side} mm high at any depth, p_p times the cosine of the angle round the shell (5.10, 5.11)"
+            )
+        }
+        Section::Rectangle(..) => {
+            format!("two opposite squares of s = {side} mm at any place of the wall (5.10)")
+        }
+    };
+    format!("p_he and the strakes' numbers are without the patch load p_p, which is to be added: it acts on {place}.")
+}
+
+/// A number of tenths, without a zero behind the point.
+fn tenths(number: u64) -> String {
+    match number % 10 {
+        0 => (number / 10).to_string(),
+        tenth => format!("{}.{tenth}", number / 10),
+    }
+}
+
+/// Lines of whole words, each at most so many characters wide unless one word is wider.
+pub fn wrapped(text: &str, width: usize) -> Vec<String> {
+    let mut lines: Vec<String> = Vec::new();
+    for word in text.split_whitespace() {
+        match lines.last_mut() {
+            Some(line) if line.chars().count() + 1 + word.chars().count() <= width => {
+                *line += " ";
+                *line += word;
+            }
+            _ => lines.push(word.to_string()),
+        }
+    }
+    lines
+}

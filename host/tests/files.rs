@@ -1,0 +1,529 @@
+//! No file is lost: what is refused, what is replaced, and the bytes of every file afterwards.
+
+mod common;
+
+use common::{root, sample};
+use std::collections::BTreeMap;
+use std::ffi::OsString;
+use std::fs::{self, File, OpenOptions, Permissions};
+use std::os::unix::fs::{symlink, FileTypeExt, MetadataExt, PermissionsExt};
+use std::path::{Path, PathBuf};
+use std::process::{Command, Output};
+
+/// A folder of a test's own, in which the program runs.
+struct Folder(PathBuf);
+
+/// Each name with where it leads, as a link, or its bytes.
+type State = BTreeMap<OsString, (Option<PathBuf>, Vec<u8>)>;
+
+impl Folder {
+    fn new(name: &str) -> Folder {
+        let path = Path::new(env!("CARGO_TARGET_TMPDIR")).join("files").join(name);
+        if path.exists() {
+            fs::remove_dir_all(&path).expect("an old folder");
+        }
+        fs::create_dir_all(&path).expect("a folder");
+        Folder(path)
+    }
+
+    /// With a silo's text `w.silo`.
+    fn with_silo(name: &str) -> Folder {
+        let folder = Folder::new(name);
+        folder.put("w.silo", &sample("wheat-tower.silo"));
+        folder
+    }
+
+    fn path(&self, name: &str) -> PathBuf {
+        self.0.join(name)
+    }
+
+    fn put(&self, name: &str, bytes: &[u8]) {
+        fs::write(self.path(name), bytes).expect(name);
+    }
+
+    fn get(&self, name: &str) -> Vec<u8> {
+        fs::read(self.path(name)).expect(name)
+    }
+
+    /// Everything in the folder, hidden files too.
+    fn state(&self) -> State {
+        let entries = self.0.read_dir().expect("the folder").map(|entry| entry.expect("an entry"));
+        let state = entries.map(|entry| {
+            let link = fs::read_link(entry.path()).ok();
+            (entry.file_name(), (link, fs::read(entry.path()).unwrap_or_default()))
+        });
+        state.collect()
+    }
+
+    fn silo(&self, arguments: &[&str]) -> Command {
+        let mut command = Command::new(env!("CARGO_BIN_EXE_silo"));
+        command.current_dir(&self.0).args(arguments);
+        command
+    }
+
+    /// A device with that minor number under major 1. The superuser, who could break the machine's
+    /// own one, gets one in this folder, if the system allows that.
+    fn device(&self, name: &str, minor: u32) -> Option<String> {
+        if fs::metadata(&self.0).expect("the folder").uid() != 0 {
+            return Some(format!("/dev/{name}"));
+        }
+        let script = format!("mknod {name} c 1 {minor} && : >{name}");
+        output(&mut bash(self, &script)).status.success().then(|| name.to_string())
+    }
+
+    /// A run that ends with status 2 and these words, and leaves everything as it was.
+    fn refuses(&self, command: &mut Command, words: &str) {
+        let before = self.state();
+        let (status, said) = ended(command);
+        assert_eq!(status, 2, "{command:?}: {said}");
+        assert!(said.contains(words), "{command:?}: {words}: {said}");
+        assert!(before == self.state(), "{command:?} changed a file");
+    }
+
+    /// A run that ends well and changes this file alone; what it says of it.
+    fn writes(&self, arguments: &[&str], file: &str) -> String {
+        let mut before = self.state();
+        let (status, said) = ended(&mut self.silo(arguments));
+        assert_eq!(status, 0, "{arguments:?}: {said}");
+        let mut after = self.state();
+        before.remove(&OsString::from(file));
+        assert!(after.remove(&OsString::from(file)).is_some_and(|(_, bytes)| !bytes.is_empty()));
+        assert!(before == after, "{arguments:?} changed another file");
+        said
+    }
+}
+
+fn output(command: &mut Command) -> Output {
+    command.output().expect("the program runs")
+}
+
+/// Status and messages of a run that prints nothing.
+fn ended(command: &mut Command) -> (i32, String) {
+    let Output { status, stdout, stderr } = output(command);
+    assert_eq!(String::from_utf8_lossy(&stdout), "", "{command:?}");
+    (status.code().expect("no signal"), String::from_utf8(stderr).expect("UTF-8"))
+}
+
+fn printed(arguments: &[&str]) -> Vec<u8> {
+    shown(arguments, 0)
+}
+
+/// What is printed, with that status.
+fn shown(arguments: &[&str], status: i32) -> Vec<u8> {
+    let mut command = Command::new(env!("CARGO_BIN_EXE_silo"));
+    let output = output(command.current_dir(root()).args(arguments));
+    assert_eq!(output.status.code(), Some(status), "{arguments:?}");
+    output.stdout
+}
+
+const READ: &str = "this is the file that is read";
+
+#[test]
+fn the_file_that_is_read_stays() {
+    let folder = Folder::with_silo("read");
+    fs::create_dir(folder.path("sub")).expect("a folder");
+    symlink("w.silo", folder.path("link.silo")).expect("a link");
+    symlink(folder.path("link.silo"), folder.path("link.svg")).expect("a link to a link");
+    fs::hard_link(folder.path("w.silo"), folder.path("hard.svg")).expect("a hard link");
+    let absolute = folder.path("w.silo");
+    let absolute = absolute.to_str().expect("UTF-8");
+    let names =
+        ["w.silo", "./w.silo", "sub/../w.silo", absolute, "link.silo", "link.svg", "hard.svg"];
+    for read in ["w.silo", "link.silo", "hard.svg"] {
+        for name in names {
+            for command in ["draw", "sheet", "loads"] {
+                let arguments = [command, read, "-o", name, "--force"];
+                folder.refuses(&mut folder.silo(&arguments), READ);
+                folder.refuses(&mut folder.silo(&arguments[..4]), READ);
+            }
+        }
+    }
+    for name in names {
+        for read in ["-", "/dev/stdin"] {
+            let mut command = folder.silo(&["draw", read, "-o", name, "--force"]);
+            let input = File::open(absolute).expect("the silo");
+            folder.refuses(command.stdin(input), READ);
+        }
+    }
+    folder.put("w.sheet", &printed(&["sheet", "samples/cement.silo", "-o", "-"]));
+    folder.refuses(&mut folder.silo(&["explain", "w.sheet", "-o", "w.sheet", "--force"]), READ);
+}
+
+#[test]
+fn nothing_is_printed_into_the_file_that_is_read() {
+    let folder = Folder::with_silo("printed");
+    folder.put("bad.silo", b"diameter = 5 furlongs\n");
+    let open = |name: &str| OpenOptions::new().append(true).open(folder.path(name)).expect(name);
+    let words = "standard output is the file that is read";
+    folder.refuses(folder.silo(&["loads", "w.silo"]).stdout(open("w.silo")), words);
+    folder.refuses(folder.silo(&["draw", "w.silo", "-o", "-"]).stdout(open("w.silo")), words);
+    let input = File::open(folder.path("w.silo")).expect("the silo");
+    folder.refuses(folder.silo(&["loads", "-"]).stdin(input).stdout(open("w.silo")), words);
+    // the messages would go there too
+    folder.refuses(folder.silo(&["loads", "bad.silo"]).stderr(open("bad.silo")), "");
+    let both = &mut folder.silo(&["loads", "w.silo"]);
+    folder.refuses(both.stdout(open("w.silo")).stderr(open("w.silo")), "");
+    // another file is written to
+    folder.put("log", b"before\n");
+    assert_eq!(ended(folder.silo(&["loads", "w.silo"]).stdout(open("log"))), (0, String::new()));
+    assert!(folder.get("log").starts_with(b"before\nw.silo\n"));
+}
+
+/// A command, the ending of what it writes, what that is, in a word, and whether the tool replaces one.
+const WRITTEN: [(&[&str], &str, &str, &str, bool); 11] = [
+    (&["draw", "w.silo"], "svg", "a drawing", "drawing", true),
+    (&["draw", "w.silo", "--kpa"], "svg", "a drawing", "drawing", true),
+    (&["sheet", "w.silo"], "sheet", "a sheet", "sheet", true),
+    (&["loads", "w.silo", "--csv"], "csv", "CSV of loads", "CSV", true),
+    (&["loads", "w.silo", "--csv-semicolon"], "csv", "CSV of loads", "CSV", true),
+    (&["loads", "w.silo", "--json"], "json", "JSON of loads", "JSON", true),
+    (&["explain", "read.sheet"], "silo", "a silo's text", "text", false),
+    (&["loads", "w.silo"], "txt", "a table of loads", "table", true),
+    (&["loads", "w.silo", "--kpa"], "txt", "a table of loads", "table", true),
+    (&["catalogue"], "txt", "the catalogue", "catalogue", true),
+    (&["catalogue", "--csv-semicolon"], "csv", "the catalogue's CSV", "CSV", true),
+];
+
+fn with_all_commands(name: &str) -> Folder {
+    let folder = Folder::with_silo(name);
+    folder.put("read.sheet", &printed(&["sheet", "samples/barley-bin.silo", "-o", "-"]));
+    folder
+}
+
+#[test]
+fn what_was_written_is_said_and_replaced_by_its_kind() {
+    let folder = with_all_commands("replaced");
+    for (command, ending, _, word, replaced) in WRITTEN {
+        let file = format!("new.{ending}");
+        let arguments = [command, &["-o", &file]].concat();
+        let said = folder.writes(&arguments, &file);
+        let bytes = folder.get(&file);
+        let size = bytes.len().to_string();
+        let size = match size.split_at(size.len().saturating_sub(3)) {
+            ("", size) => size.to_string(),
+            (thousands, rest) => format!("{thousands},{rest}"),
+        };
+        assert_eq!(said, format!("silo: {file}: {word} written, {size} bytes\n"));
+        assert_eq!(bytes, output(&mut folder.silo(&[command, &["-o", "-"]].concat())).stdout);
+        let again = said.replace("written", "replaced");
+        if replaced {
+            let line = if word == "sheet" { &b""[..] } else { b"\n" };
+            folder.put(&file, &[&bytes[..], line].concat());
+            assert_eq!(folder.writes(&arguments, &file), again);
+        } else {
+            folder.refuses(&mut folder.silo(&arguments), "which may be written by hand");
+            let forced = [&arguments[..], &["--force"]].concat();
+            assert_eq!(folder.writes(&forced, &file), again);
+        }
+        assert_eq!(folder.get(&file), bytes);
+        folder.put(&file, b"");
+        assert_eq!(folder.writes(&arguments, &file), said, "an empty file loses nothing");
+        fs::remove_file(folder.path(&file)).expect("the file");
+    }
+}
+
+/// What a file may hold, and the words for it. Only the kind that is written is replaced.
+fn contents() -> Vec<(&'static str, Vec<u8>)> {
+    let silo = ["samples/wheat-tower.silo"];
+    let of = |command: &str, more: &[&str]| printed(&[&[command], &silo[..], more].concat());
+    let csv = of("loads", &["--csv"]);
+    let other = "something other than ";
+    vec![
+        ("a drawing", of("draw", &["-o", "-"])),
+        ("a sheet", of("sheet", &["-o", "-"])),
+        ("a sheet", printed(&["sheet", "samples/cement.silo", "-o", "-"])),
+        ("a sheet", shown(&["sheet", "samples/blank-friction.silo", "-o", "-"], 1)),
+        ("CSV of loads", [b"\xef\xbb\xbf", &csv[..]].concat()),
+        ("CSV of loads", csv),
+        ("CSV of loads", b"silo;w\npart;p_he (kPa)\n".to_vec()),
+        ("JSON of loads", of("loads", &["--json"])),
+        ("the catalogue", printed(&["catalogue"])),
+        ("the catalogue's CSV", printed(&["catalogue", "--csv"])),
+        ("a table of loads", b"w.silo\n\n 1 2\n\nsilo 1.0.0, ENV 1991-4:1995\n\n".to_vec()),
+        ("a silo's text", sample("wheat-tower.silo")),
+        ("a silo's text", b"# mine\r\nD_x = 1\r\n Diameter=4 m\r\n".to_vec()),
+        (other, b"<svg><text>our mark</text></svg>".to_vec()),
+        (other, b"{ \"name\": \"ours\" }".to_vec()),
+        (other, b"part,count\nbolt,400\n".to_vec()),
+        (other, b"silo 1 is full\nring the miller\n".to_vec()),
+        (other, b"\x04\0\x01\0 bytes of another program".to_vec()),
+        (other, b"\n".to_vec()),
+        (other, b"\x89PNG\r\n\x1a\n".to_vec()),
+        (other, [b"<svg ENV 1991-4", &[b' '; 1 << 20][..]].concat()),
+    ]
+}
+
+#[test]
+fn what_is_of_another_kind_stays_unless_forced() {
+    let folder = with_all_commands("kinds");
+    for (command, ending, kind, _, _) in WRITTEN {
+        let file = format!("old.{ending}");
+        let arguments = [command, &["-o", &file]].concat();
+        for (found, bytes) in contents() {
+            folder.put(&file, &bytes);
+            if found == kind && kind != "a silo's text" {
+                folder.writes(&arguments, &file);
+                continue;
+            }
+            let words = match found {
+                "something other than " => format!("{file} holds {found}{kind} by silo; "),
+                _ if found == kind => {
+                    format!("{file} holds {found}, which may be written by hand; ")
+                }
+                _ => format!("{file} holds {found}, not {kind}; "),
+            };
+            let words = words + "choose another name, or --force replaces it\n";
+            folder.refuses(&mut folder.silo(&arguments), &words);
+            let said = folder.writes(&[&arguments[..], &["--force"]].concat(), &file);
+            assert!(said.contains(" replaced, "), "{said}");
+            assert_ne!(folder.get(&file), bytes);
+        }
+    }
+}
+
+#[test]
+fn links_permissions_and_folders() {
+    let folder = Folder::with_silo("links");
+    let draw = |name: &str| folder.silo(&["draw", "w.silo", "-o", name]);
+    fs::create_dir(folder.path("sub")).expect("a folder");
+    folder.refuses(&mut draw("sub"), "sub: a folder; after -o a file's name is due");
+    folder.refuses(&mut draw("none/"), "none/: a folder; ");
+    folder.refuses(&mut draw("none/w.svg"), "not written: there is no folder none\n");
+    folder.refuses(&mut draw("w.silo/w.svg"), "w.silo/w.svg: not written: ");
+    symlink("gone.svg", folder.path("dangling.svg")).expect("a link");
+    folder.refuses(
+        &mut draw("dangling.svg"),
+        "dangling.svg: a link to gone.svg, which does not exist; choose another name",
+    );
+    symlink("loop.svg", folder.path("loop.svg")).expect("a link");
+    folder.refuses(&mut draw("loop.svg"), "loop.svg: not written: ");
+
+    let drawing = printed(&["draw", "samples/cement.silo", "-o", "-"]);
+    folder.put("sub/real.svg", &drawing);
+    fs::set_permissions(folder.path("sub/real.svg"), Permissions::from_mode(0o604)).expect("mode");
+    symlink("sub/real.svg", folder.path("link.svg")).expect("a link");
+    assert!(folder.writes(&["draw", "w.silo", "-o", "link.svg"], "link.svg").contains("replaced"));
+    assert_eq!(
+        fs::read_link(folder.path("link.svg")).expect("still a link"),
+        Path::new("sub/real.svg")
+    );
+    assert_ne!(folder.get("sub/real.svg"), drawing);
+    let mode = fs::metadata(folder.path("sub/real.svg")).expect("the file").permissions().mode();
+    assert_eq!(mode & 0o777, 0o604);
+    assert_eq!(folder.path("sub").read_dir().expect("sub").count(), 1);
+
+    folder.put("kept.svg", &drawing);
+    fs::set_permissions(folder.path("kept.svg"), Permissions::from_mode(0o444)).expect("mode");
+    let words = "kept.svg: the file is write-protected";
+    folder.refuses(&mut draw("kept.svg"), words);
+    folder.refuses(draw("kept.svg").arg("--force"), words);
+}
+
+#[test]
+fn an_ending_that_does_not_fit() {
+    let folder = with_all_commands("endings");
+    let cases: [(&[&str], &str, &str); 9] = [
+        (&["draw", "w.silo"], "maize.pdf", "a drawing ends in .svg, such as maize.svg"),
+        (&["draw", "w.silo"], "of/maize.v2.", "a drawing ends in .svg, such as of/maize.v2.svg"),
+        (&["draw", "w.silo"], "maize.silo", "a drawing ends in .svg, such as maize.svg"),
+        (&["sheet", "w.silo"], "w.svg", "a sheet ends in .sheet, such as w.sheet"),
+        (&["loads", "w.silo"], "w.csv", "a table of loads ends in .txt, such as w.txt"),
+        (&["loads", "w.silo", "--csv"], "w.txt", "CSV of loads ends in .csv, such as w.csv"),
+        (&["loads", "w.silo", "--json"], "w.txt", "JSON of loads ends in .json, such as w.json"),
+        (
+            &["explain", "read.sheet"],
+            "w.sheet",
+            "a silo's text ends in .silo or .txt, such as w.silo",
+        ),
+        (&["catalogue"], "w.silo2", "the catalogue ends in .txt, such as w.txt"),
+    ];
+    for (command, name, words) in cases {
+        let words = format!("{name}: the name of {words}\n");
+        folder.refuses(folder.silo(command).args(["-o", name]), &words);
+        folder.refuses(folder.silo(command).args(["--force", "-o", name]), &words);
+    }
+    for name in ["MAIZE.SVG", "maize.Svg", "maize", ".svg"] {
+        folder.writes(&["draw", "w.silo", "-o", name], name);
+    }
+    for name in ["again.SILO", "again.txt"] {
+        folder.writes(&["explain", "read.sheet", "-o", name], name);
+    }
+}
+
+/// The program in bash, which may set limits first; `$silo` is the program.
+fn bash(folder: &Folder, script: &str) -> Command {
+    let mut command = Command::new("bash");
+    command.current_dir(&folder.0).env("silo", env!("CARGO_BIN_EXE_silo"));
+    command.args(["-c", script]);
+    command
+}
+
+#[test]
+fn a_full_disk_leaves_the_old_file() {
+    let folder = Folder::with_silo("full");
+    folder.put("old.svg", &printed(&["draw", "samples/cement.silo", "-o", "-"]));
+    let limited = |rest: &str| {
+        bash(&folder, &format!("trap '' XFSZ; ulimit -f 1; exec $silo draw w.silo -o {rest}"))
+    };
+    let words = "not written: it is longer than a file may be here (";
+    folder.refuses(&mut limited("old.svg"), words);
+    folder.refuses(&mut limited("old.svg --force"), "; the old file is as it was\n");
+    folder.refuses(&mut limited("new.svg"), words);
+    let full = "the disk is full (No space left on device (os error 28))\n";
+    let device = OpenOptions::new().write(true).open("/dev/full").expect("/dev/full");
+    folder.refuses(
+        folder.silo(&["loads", "w.silo"]).stdout(device),
+        &format!("silo: standard output: not all is written: {full}"),
+    );
+    if let Some(device) = folder.device("full", 7) {
+        let draw = &mut folder.silo(&["draw", "w.silo", "-o", &device]);
+        assert_eq!(ended(draw), (2, format!("silo: {device}: not written: {full}")));
+        let found = fs::metadata(folder.path(&device)).expect("the device");
+        assert!(found.file_type().is_char_device());
+    }
+}
+
+/// Nobody may write to /proc and /sys, the superuser neither.
+#[test]
+fn a_folder_that_may_not_be_written() {
+    let folder = Folder::with_silo("unwritable");
+    let mut tried = 0;
+    for place in ["/proc", "/sys"].into_iter().filter(|place| Path::new(place).is_dir()) {
+        let name = format!("{place}/w.svg");
+        let (status, said) = ended(&mut folder.silo(&["draw", "w.silo", "-o", &name]));
+        assert_eq!(status, 2);
+        let read_only = format!("silo: {name}: not written: the disk may only be read (");
+        let words = format!("silo: {name}: not written: you may not write to the folder {place} (");
+        assert!(said.starts_with(&words) || said.starts_with(&read_only), "{said}");
+        assert!(!Path::new(&name).exists());
+        tried += 1;
+    }
+    assert!(tried > 0);
+    fs::create_dir(folder.path("locked")).expect("a folder");
+    folder.put("locked/old.svg", &printed(&["draw", "samples/cement.silo", "-o", "-"]));
+    let old = folder.get("locked/old.svg");
+    let locked = |mode| fs::set_permissions(folder.path("locked"), Permissions::from_mode(mode));
+    locked(0o555).expect("a mode");
+    let free = File::create(folder.path("locked/tried")).is_ok();
+    let (status, said) = ended(&mut folder.silo(&["draw", "w.silo", "-o", "locked/old.svg"]));
+    locked(0o755).expect("a mode");
+    if free {
+        // the superuser, for whom the folder is not locked
+        assert_eq!(status, 0);
+        return;
+    }
+    assert_eq!(status, 2);
+    assert!(said.contains("not written: you may not write to the folder "), "{said}");
+    assert_eq!(folder.get("locked/old.svg"), old);
+    assert_eq!(folder.path("locked").read_dir().expect("locked").count(), 1);
+}
+
+/// A process's number comes again, and with it the name of what a power cut has left.
+#[test]
+fn a_temporary_file_that_is_left_over() {
+    let folder = Folder::with_silo("left-over");
+    let script = "echo part >.silo-$$-0.new; exec $silo draw w.silo -o w.svg";
+    let (status, said) = ended(&mut bash(&folder, script));
+    assert_eq!((status, said.starts_with("silo: w.svg: drawing written, ")), (0, true), "{said}");
+    let names: Vec<OsString> = folder.state().into_keys().collect();
+    assert_eq!(names.len(), 3, "{names:?}");
+    assert_eq!(folder.get(names[0].to_str().expect("UTF-8")), b"part\n");
+}
+
+/// They are written to and read as they are.
+/// CSV without the rows of the description, which name the file.
+fn loads(csv: &[u8]) -> String {
+    let csv = String::from_utf8(csv.to_vec()).expect("UTF-8");
+    csv.lines().filter(|line| !line.starts_with("silo,")).map(|line| format!("{line}\n")).collect()
+}
+
+#[test]
+fn devices_and_pipes() {
+    let folder = Folder::with_silo("pipes");
+    let drawing = output(&mut folder.silo(&["draw", "w.silo", "-o", "-"])).stdout;
+    if let Some(device) = folder.device("null", 3) {
+        let (status, said) = ended(&mut folder.silo(&["draw", "w.silo", "-o", &device]));
+        assert_eq!((status, said.contains(": drawing written, ")), (0, true), "{said}");
+        let found = fs::metadata(folder.path(&device)).expect("the device");
+        assert!(found.file_type().is_char_device());
+    }
+    let nothing = Vec::new();
+    let loads = loads(&output(&mut folder.silo(&["loads", "w.silo", "--csv"])).stdout).into_bytes();
+    for (script, printed) in [
+        ("mkfifo out; cat out & $silo draw w.silo -o out; test -p out && wait", &drawing),
+        ("mkfifo in; cat w.silo >in & $silo loads in --csv | grep -v ^silo,", &loads),
+        ("$silo loads <(cat w.silo) --csv | grep -v ^silo,", &loads),
+        ("cat w.silo | $silo loads /dev/stdin --csv | grep -v ^silo,", &loads),
+        // a reader that goes away is no error
+        ("mkfifo gone; (exec 3<gone) & $silo draw w.silo -o gone", &nothing),
+        ("$silo loads w.silo | true; exit ${PIPESTATUS[0]}", &nothing),
+    ] {
+        let Output { status, stdout, stderr } = output(&mut bash(&folder, script));
+        let said = String::from_utf8_lossy(&stderr);
+        assert_eq!(status.code(), Some(0), "{script}: {said}");
+        assert!(stdout == *printed, "{script}: {said}");
+    }
+}
+
+#[test]
+fn names_that_start_with_a_dash() {
+    let folder = Folder::with_silo("dashes");
+    folder.put("-1.silo", &sample("wheat-tower.silo"));
+    folder.put("--csv", &sample("wheat-tower.silo"));
+    folder.refuses(
+        &mut folder.silo(&["loads", "-1.silo"]),
+        "; -- stands before a file whose name starts with -\n",
+    );
+    let expected = loads(&output(&mut folder.silo(&["loads", "w.silo", "--csv"])).stdout);
+    for name in ["-1.silo", "--csv"] {
+        let output = output(&mut folder.silo(&["loads", "--csv", "--", name]));
+        assert_eq!((output.status.code(), loads(&output.stdout)), (Some(0), expected.clone()));
+    }
+    let words = "-o: a file is due after it, not --force; a file of that name is ./--force\n";
+    folder.refuses(&mut folder.silo(&["draw", "w.silo", "-o", "--force"]), words);
+    folder.writes(&["draw", "-o", "./--force", "--", "--csv"], "--force");
+}
+
+/// Other programs may want to see what is refused.
+#[test]
+fn a_refused_silo_has_a_sheet_alone() {
+    let folder = Folder::new("refused");
+    folder.put("blank.silo", &sample("blank-friction.silo"));
+    for arguments in
+        [&["draw", "blank.silo", "-o", "b.svg"], &["loads", "blank.silo", "-o", "b.txt"]]
+    {
+        assert_eq!(ended(&mut folder.silo(arguments)).0, 1);
+        assert_eq!(folder.state().len(), 1);
+    }
+    let (status, said) = ended(&mut folder.silo(&["sheet", "blank.silo", "-o", "b.sheet"]));
+    let words =
+        "the sheet has the numbers as the text has them\nsilo: b.sheet: sheet written, 126 bytes\n";
+    assert_eq!((status, said.ends_with(words)), (1, true), "{said}");
+    assert_eq!(folder.get("b.sheet").len(), 126);
+}
+
+/// JSON says why there are no loads, on standard output even where a file is named.
+#[test]
+fn json_of_what_gives_no_loads() {
+    let folder = Folder::with_silo("json");
+    folder.put("blank.silo", &sample("blank-friction.silo"));
+    folder.put("long.silo", &[b'#'; (1 << 20) + 1]);
+    folder.put("old.json", &printed(&["loads", "samples/cement.silo", "--json"]));
+    let before = folder.state();
+    for (file, status, refusal, message) in [
+        ("none.silo", 2, "null", "none.silo: there is no such file"),
+        (".", 2, "null", ".: a folder, where a file is due"),
+        ("long.silo", 2, "null", "long.silo: over 1 MiB, longer than any silo's text or sheet"),
+        ("blank.silo", 1, "7", "friction = 0.00: wall friction is missing or 0"),
+    ] {
+        for more in [&[][..], &["-o", "old.json"], &["-o", "new.json"]] {
+            let ended = output(folder.silo(&["loads", "--json", file]).args(more));
+            assert_eq!(ended.status.code(), Some(status));
+            let object = String::from_utf8(ended.stdout).expect("UTF-8");
+            assert!(object.starts_with(&format!("{{\n  \"refusal\": {refusal},\n")), "{object}");
+            assert!(object.contains(&format!("\"message\": \"{message}")), "{object}");
+            assert!(ended.stderr.is_empty());
+            assert!(before == folder.state());
+        }
+    }
+}

@@ -1,0 +1,182 @@
+//! A drawing read back from its SVG: texts with the room that they take, and the points of its
+//! shapes. An element of the drawing stands in a line.
+
+type Point = (f64, f64);
+
+/// Widths of DejaVu Sans from space to tilde, hundredths of the type's size, rounded up.
+const WIDTHS: [u8; 95] = [
+    32, 41, 46, 84, 64, 95, 78, 28, 40, 40, 50, 84, 32, 37, 32, 34, 64, 64, 64, 64, 64, 64, 64, 64,
+    64, 64, 34, 34, 84, 84, 84, 54, 100, 69, 69, 70, 78, 64, 58, 78, 76, 30, 30, 66, 56, 87, 75,
+    79, 61, 79, 70, 64, 62, 74, 69, 99, 69, 62, 69, 40, 34, 40, 84, 50, 50, 62, 64, 55, 64, 62, 36,
+    64, 64, 28, 28, 58, 28, 98, 64, 62, 64, 64, 42, 53, 40, 64, 60, 82, 60, 60, 53, 64, 34, 64, 84,
+];
+/// The widest of bold letters beside plain ones.
+const BOLD: f64 = 1.2;
+/// Above and below the line on which letters stand, in parts of the type's size.
+const ASCENT: f64 = 0.76;
+const DESCENT: f64 = 0.24;
+
+/// Words with the least size of type in them, and the corners of their room.
+#[derive(Debug)]
+pub struct Text {
+    pub words: String,
+    pub least_size: f64,
+    pub low: Point,
+    pub high: Point,
+}
+
+pub struct Page {
+    pub texts: Vec<Text>,
+    /// Every point of a line, shape or arc.
+    pub points: Vec<Point>,
+    pub style: String,
+    elements: Vec<(String, String, Vec<Point>)>,
+}
+
+/// The value of an attribute, or nothing.
+fn attribute<'a>(element: &'a str, name: &str) -> &'a str {
+    let start = element.find(&format!(" {name}=\"")).map(|at| at + name.len() + 3);
+    let value = start.map(|start| &element[start..]).unwrap_or("");
+    value.split('"').next().unwrap_or("")
+}
+
+fn numbers(text: &str) -> Vec<f64> {
+    let separator = |c: char| !c.is_ascii_digit() && c != '.' && c != '-';
+    text.split(separator).filter_map(|number| number.parse().ok()).collect()
+}
+
+fn points(element: &str) -> Vec<Point> {
+    let of = |names: [&str; 2]| names.map(|name| numbers(attribute(element, name))).concat();
+    let numbers = match element.split([' ', '>']).next() {
+        Some("<line") => [of(["x1", "y1"]), of(["x2", "y2"])].concat(),
+        Some("<circle") => of(["cx", "cy"]),
+        // M x y A rx ry 0 0 1 x y
+        Some("<path") => {
+            let numbers = numbers(attribute(element, "d"));
+            [&numbers[..2], &numbers[7..]].concat()
+        }
+        Some("<polyline" | "<polygon") => numbers(attribute(element, "points")),
+        _ => Vec::new(),
+    };
+    numbers.chunks_exact(2).map(|pair| (pair[0], pair[1])).collect()
+}
+
+/// The last value of a property in the rules of an element's classes.
+fn property<'a>(style: &'a str, element: &str, classes: &str, name: &str) -> Option<&'a str> {
+    let rules = style.split_inclusive('}').filter_map(|rule| rule.trim().split_once(" {"));
+    let applies = |selector: &str| {
+        selector == element || classes.split(' ').any(|class| selector == format!(".{class}"))
+    };
+    let mut values = rules.filter(|(selector, _)| applies(selector)).flat_map(|(_, body)| {
+        body.trim_end_matches('}').split(';').filter_map(|part| part.split_once(": "))
+    });
+    values.rfind(|(key, _)| key.trim() == name).map(|(_, value)| value.trim())
+}
+
+fn size(style: &str, element: &str, classes: &str) -> Option<f64> {
+    let value = property(style, element, classes, "font-size")?;
+    value.strip_suffix("px").expect("pixels").parse().ok()
+}
+
+fn em(c: char) -> f64 {
+    match c {
+        ' '..='~' => f64::from(WIDTHS[c as usize - 32]) / 100.0,
+        '\u{a0}' => 0.32,
+        '\u{2009}' => 0.2,
+        '\u{200b}' => 0.0,
+        '°' => 0.5,
+        'α' | 'θ' => 0.66,
+        _ => 1.1,
+    }
+}
+
+/// Words of an element in pieces, each with the classes of its `tspan`.
+fn pieces(content: &str) -> Vec<(&str, String)> {
+    let mut classes = "";
+    let mut pieces = Vec::new();
+    for part in content.split_inclusive('<').flat_map(|part| part.split_inclusive('>')) {
+        let part = part.trim_end_matches('<');
+        match part.strip_suffix('>') {
+            Some(tag) => classes = attribute(tag, "class"),
+            None => pieces.push((classes, unescaped(part))),
+        }
+    }
+    pieces
+}
+
+fn unescaped(text: &str) -> String {
+    let marks = [("&lt;", "<"), ("&gt;", ">"), ("&quot;", "\""), ("&apos;", "'"), ("&amp;", "&")];
+    assert!(!text.contains(['<', '>', '"', '\'']), "{text}");
+    marks.iter().fold(text.to_string(), |text, (mark, c)| text.replace(mark, c))
+}
+
+fn text(style: &str, line: &str) -> Text {
+    let (tag, content) = line.split_once('>').expect("a tag");
+    let content = content.strip_suffix("</text>").expect("an end");
+    let classes = attribute(tag, "class");
+    let own = size(style, "text", classes).expect("a size");
+    let weight = property(style, "text", classes, "font-weight");
+    let bold = if weight == Some("bold") { BOLD } else { 1.0 };
+    let pieces: Vec<(f64, String)> = pieces(content)
+        .into_iter()
+        .map(|(classes, words)| (size(style, "tspan", classes).unwrap_or(own), words))
+        .collect();
+    let wide = |(size, words): &(f64, String)| words.chars().map(em).sum::<f64>() * size * bold;
+    let width: f64 = pieces.iter().map(wide).sum();
+    let start = match property(style, "text", classes, "text-anchor") {
+        Some("middle") => -width / 2.0,
+        Some("end") => -width,
+        _ => 0.0,
+    };
+    let lowered = numbers(attribute(content, "dy")).first().copied().unwrap_or(0.0);
+    let box_of = [(start, -ASCENT * own), (start + width, DESCENT * own + lowered)];
+    let [low, high] = placed(tag, box_of);
+    let words: String = pieces.iter().map(|(_, words)| &**words).collect();
+    let least_size = pieces.iter().map(|(size, _)| *size).fold(own, f64::min);
+    Text { words: words.replace(['\u{200b}', '\u{2009}'], ""), least_size, low, high }
+}
+
+/// A text's room on the page; a turned text reads downwards.
+fn placed(tag: &str, [(left, top), (right, bottom)]: [Point; 2]) -> [Point; 2] {
+    if let [x, y, turn] = numbers(attribute(tag, "transform"))[..] {
+        assert_eq!(turn, 90.0);
+        return [(x - bottom, y + left), (x - top, y + right)];
+    }
+    let [x, y] = ["x", "y"].map(|name| attribute(tag, name).parse::<f64>().expect("a position"));
+    [(x + left, y + top), (x + right, y + bottom)]
+}
+
+impl Page {
+    pub fn read(svg: &str) -> Page {
+        let (head, body) = svg.split_once("</style>\n").expect("a style");
+        assert!(head.contains("width=\"297mm\" height=\"210mm\" viewBox=\"0 0 1122.52 793.7\""));
+        let style = head.split_once("<style>\n").expect("a style").1.to_string();
+        let lines = || body.lines().filter(|line| !line.starts_with("<rect") && *line != "</svg>");
+        let texts = lines().filter(|line| line.starts_with("<text"));
+        let texts = texts.map(|line| text(&style, line)).collect();
+        let shapes = lines().filter(|line| !line.starts_with("<text"));
+        let elements: Vec<(String, String, Vec<Point>)> = shapes
+            .map(|line| {
+                let name = line.split(' ').next().unwrap_or("").to_string();
+                let points = points(line);
+                assert!(!points.is_empty(), "{line}");
+                (name, attribute(line, "class").to_string(), points)
+            })
+            .collect();
+        let points = elements.iter().flat_map(|(_, _, points)| points.clone()).collect();
+        Page { texts, points, style, elements }
+    }
+
+    /// The lines and areas of a class.
+    pub fn shapes(&self, class: &'static str) -> impl Iterator<Item = &Vec<Point>> + Clone {
+        let of_class = move |element: &&(String, String, Vec<Point>)| element.1 == class;
+        self.elements.iter().filter(of_class).map(|(_, _, points)| points)
+    }
+
+    /// The middles of the dots of a class.
+    pub fn circles(&self, class: &'static str) -> impl Iterator<Item = Point> + '_ {
+        let dots =
+            self.elements.iter().filter(move |(name, of, _)| name == "<circle" && of == class);
+        dots.map(|(_, _, points)| points[0])
+    }
+}
