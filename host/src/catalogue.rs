@@ -120,21 +120,20 @@ impl Origin {
 
     /// What stands before the numbers: "wheat on steel, table 7.1", "as table 7.1 wheat on steel", or "by its numbers".
     pub fn shown(&self, product: &Product) -> String {
-        let wall = self.wall.as_ref().map(|wall| format!(" on {}", wall.word()));
-        let wall = wall.unwrap_or_default();
-        match (self.row, name_of(product)) {
-            (Some(row), _) => {
-                let own: Vec<&str> = self.replaced.iter().map(|name| name.word()).collect();
-                let own = match own.is_empty() {
-                    true => String::new(),
-                    false => format!(" with own {}", own.join(" and ")),
-                };
-                format!("{}{wall}, table 7.1{own}", PRODUCTS[row as usize].name)
-            }
-            (None, Some(name)) if wall.is_empty() => format!("as table 7.1 {name}"),
-            (None, Some(name)) => format!("{}, as table 7.1 {name}", wall.trim_start()),
-            (None, None) if wall.is_empty() => "by its numbers".to_string(),
-            (None, None) => format!("{}, by its numbers", wall.trim_start()),
+        let wall = self.wall.as_ref().map(|wall| format!("on {}", wall.word()));
+        let Some(row) = self.row else {
+            let numbers = match name_of(product) {
+                Some(name) => format!("as table 7.1 {name}"),
+                None => "by its numbers".to_string(),
+            };
+            return wall.into_iter().chain([numbers]).collect::<Vec<String>>().join(", ");
+        };
+        let name = PRODUCTS[row as usize].name.to_string();
+        let name = [name].into_iter().chain(wall).collect::<Vec<String>>().join(" ");
+        let own: Vec<&str> = self.replaced.iter().map(|name| name.word()).collect();
+        match own.is_empty() {
+            true => format!("{name}, table 7.1"),
+            false => format!("{name}, table 7.1 with own {}", own.join(" and ")),
         }
     }
 

@@ -44,9 +44,9 @@ impl Dialect {
 
     /// Text in quotes where it needs them. A spreadsheet would work out what starts as a formula, so an apostrophe stands before it.
     pub fn text(self, text: &str) -> String {
-        let formula = text.starts_with(['=', '+', '-', '@']);
+        let formula = text.starts_with(['=', '+', '-', '@', '\t', '\r']);
         let text = if formula { format!("'{text}") } else { text.to_string() };
-        match text.contains([self.separator, '"', '\n']) {
+        match text.contains([self.separator, '"', '\n', '\r']) {
             true => format!("\"{}\"", text.replace('"', "\"\"")),
             false => text,
         }

@@ -317,8 +317,9 @@ impl Measure {
     pub fn whole(&self, decimal: Decimal, power: u32, written: &str) -> Result<u64, String> {
         let show = self.show;
         if let Some(thousands) = thousands(written).filter(|_| power == 0) {
-            let mend = self.mend([thousands / 1000, thousands]).unwrap_or_default();
-            return Err(format!("{written}: some read it in thousands; {mend}"));
+            let mend = self.mend([thousands / 1000, thousands]);
+            let mend = mend.map(|mend| format!("; {mend}")).unwrap_or_default();
+            return Err(format!("{written}: some read it in thousands{mend}"));
         }
         decimal.whole(power, self.most).map_err(|misfit| match misfit {
             Misfit::Finer(below) => {

@@ -117,13 +117,17 @@ fn items<'a>(tokens: Vec<Token<'a>>, value: &str) -> Result<Vec<Item<'a>>, Strin
     Ok(items)
 }
 
+/// The first number that has a comma between its digits.
+fn with_comma<'a>(tokens: &[Token<'a>]) -> Option<&'a str> {
+    tokens.iter().find_map(|token| match token {
+        Token::Number(number) if number.contains(',') => Some(*number),
+        _ => None,
+    })
+}
+
 fn item<'a>(part: &[Token<'a>]) -> Result<Item<'a>, String> {
-    for token in part {
-        if let Token::Number(number) = token {
-            if number.contains(',') {
-                return Err(comma(number, true));
-            }
-        }
+    if let Some(number) = with_comma(part) {
+        return Err(comma(number, true));
     }
     let (count, rest) = match part {
         [Token::Number(count), Token::Times, rest @ ..] => {
@@ -173,14 +177,11 @@ pub fn list(value: &str, measure: &Measure, most: usize, how: &str) -> Result<Ve
 /// Two sides, `A x B UNIT`.
 pub fn pair(value: &str, measure: &Measure) -> Result<(u64, u64), String> {
     let apart = |token| if token == Token::Times { Token::Separator } else { token };
-    let commas = tokens(value).into_iter().find_map(|token| match token {
-        Token::Number(number) if number.contains(',') => Some(number),
-        _ => None,
-    });
-    if let Some(number) = commas {
+    let tokens = tokens(value);
+    if let Some(number) = with_comma(&tokens) {
         return Err(comma(number, false));
     }
-    match items(tokens(value).into_iter().map(apart).collect(), value).as_deref() {
+    match items(tokens.into_iter().map(apart).collect(), value).as_deref() {
         Ok([a, b]) => Ok((one(a.number, a.unit, measure)?, one(b.number, b.unit, measure)?)),
         _ => Err(format!("{value}: two sides are due, such as 4000 x 6000 mm")),
     }

@@ -21,6 +21,7 @@ const BAD: &[&[(&str, &str)]] = &[
     &[("diameter", "2000 2000 mm")],
     &[("diameter", "1,2,3 m")],
     &[("diameter", "5.000 mm")],
+    &[("diameter", "100.000 mm")],
     &[("diameter", "5.000,00 mm")],
     &[("diameter", "5,000.0 mm")],
     &[("outlet eccentricity", "1,000 mm")],
