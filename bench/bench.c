@@ -78,13 +78,11 @@ static uint32_t difference(loads *program, const struct sheet *sheet) {
     return largest;
 }
 
-static void compare_accepted(void) {
-    for (size_t i = 0; i < sizeof DEPTHS / sizeof *DEPTHS; i++) {
-        char name[32];
-        struct sheet sheet = sheet_of(tower((uint32_t)DEPTHS[i], MAX_STRAKES), 0);
-        snprintf(name, sizeof name, "accepted, depths: %d", DEPTHS[i]);
-        compare(name, &sheet, 2000 / (DEPTHS[i] + 10));
-    }
+static void compare_accepted(const char *kind, struct silo of(uint32_t, uint32_t), int depths) {
+    char name[32];
+    struct sheet sheet = sheet_of(of((uint32_t)depths, MAX_STRAKES), 0);
+    snprintf(name, sizeof name, "%s, depths: %d", kind, depths);
+    compare(name, &sheet, 2000 / (depths + 10));
 }
 
 static void compare_refused(void) {
@@ -101,13 +99,20 @@ static void compare_refused(void) {
     compare("14: list one too short", &list, 200);
 }
 
-int main(void) {
-    struct sheet longest = sheet_of(tower(MAX_DEPTHS, MAX_STRAKES), 0);
-    printf("largest difference from silo_loads at 200 depths: doubles %u, MPFR %u\n", (unsigned)difference(plain_loads, &longest),
+static void print_difference(const char *kind, struct silo s) {
+    struct sheet longest = sheet_of(s, 0);
+    printf("largest difference from silo_loads, %s, depths: 200: doubles %u, MPFR %u\n", kind, (unsigned)difference(plain_loads, &longest),
            (unsigned)difference(directed_loads, &longest));
+}
+
+int main(void) {
+    print_difference("slender", tower(MAX_DEPTHS, MAX_STRAKES));
+    print_difference("squat", squat(MAX_DEPTHS, MAX_STRAKES));
     printf("ratios of times, medians of %d rounds in turns; 24 strakes, a hopper\n", ROUNDS);
     printf("%-28s %8s %8s %8s\n", "", "ours/f64", "MPFR/f64", "MPFR/ours");
-    compare_accepted();
+    for (size_t i = 0; i < sizeof DEPTHS / sizeof *DEPTHS; i++)
+        compare_accepted("accepted", tower, DEPTHS[i]);
+    compare_accepted("squat", squat, MAX_DEPTHS);
     puts("refused, depths: 200");
     compare_refused();
     return 0;

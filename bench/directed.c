@@ -1,6 +1,6 @@
-/* The loads of document 01 with MPFR and directed rounding: the same promise as silo_loads. A filling pressure is worked out with every
- * step rounded to the side that makes it greater, and rounded up to a whole number; each step is correctly rounded, so that none falls
- * where its argument grows, and the pressure never falls with depth. The loads made from filling are whole-number arithmetic. */
+/* The loads of documents 01 and 02 with MPFR and directed rounding: the same promise as silo_loads. A filling pressure is worked out with
+ * every step rounded to the side that makes it greater, and rounded up to a whole number; each step is correctly rounded, so that none
+ * falls where its argument grows, and the pressure never falls with depth. The loads made from filling are whole-number arithmetic. */
 #include "sheet.h"
 #include <mpfr.h>
 
@@ -58,16 +58,17 @@ static uint64_t wall_load(const struct curve *friction, const struct wall *wall,
     return mpfr_get_ui(t, MPFR_RNDU);
 }
 
-static void directed_row(const struct silo *s, const struct curve curves[3], const struct wall *wall, uint32_t z, uint32_t *row, mpfr_t t) {
-    uint64_t d_c = s->a < s->b ? s->a : s->b, e = s->e_i > s->e_o ? s->e_i : s->e_o;
-    uint64_t p_hf = pressure(&curves[0], z, t), p_wf = pressure(&curves[2], z, t), p_he = up(s->factor * p_hf, 100);
+static void directed_row(const struct silo *s, const struct curve curves[3], const struct wall *wall, struct factors factors, uint32_t z,
+                         uint32_t *row, mpfr_t t) {
+    uint64_t d_c = width_of(s), e = s->e_i > s->e_o ? s->e_i : s->e_o;
+    uint64_t p_hf = pressure(&curves[0], z, t), p_wf = pressure(&curves[2], z, t), p_he = up(factors.c_h * p_hf, factors.bottom);
     row[0] = z;
     row[1] = (uint32_t)p_hf;
     row[2] = (uint32_t)p_wf;
     row[3] = (uint32_t)pressure(&curves[1], z, t);
     row[4] = (uint32_t)wall_load(&curves[2], wall, z, t);
     row[5] = (uint32_t)p_he;
-    row[6] = (uint32_t)up(11 * p_wf, 10);
+    row[6] = (uint32_t)up(factors.c_w * p_wf, factors.bottom);
     row[7] = (uint32_t)up(p_he * (d_c + 4 * e), 5 * d_c);
 }
 
@@ -115,15 +116,16 @@ static void prepare(const struct silo *s, struct curve curves[3], struct wall *w
 }
 
 static void fill(const struct silo *s, const struct curve curves[3], const struct wall *wall, uint32_t *answers) {
+    struct factors factors = factors_of(s);
     mpfr_t t;
     mpfr_init2(t, BITS);
     for (uint32_t i = 0; i < s->depth_count; i++, answers += COLUMNS)
-        directed_row(s, curves, wall, s->depths[i], answers, t);
+        directed_row(s, curves, wall, factors, s->depths[i], answers, t);
     directed_bottom(s, pressure(&curves[1], foot_of(s), t), answers);
     uint32_t edge = 0;
     for (uint32_t i = 0; i < s->strake_count; i++) {
         edge += s->strakes[i];
-        answers[BOTTOM + i] = (uint32_t)up(s->factor * pressure(&curves[0], edge, t), 100);
+        answers[BOTTOM + i] = (uint32_t)up(factors.c_h * pressure(&curves[0], edge, t), factors.bottom);
     }
     mpfr_clear(t);
 }

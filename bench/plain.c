@@ -1,4 +1,4 @@
-/* The loads of document 01 in double arithmetic with libm, for comparison of times only. */
+/* The loads of documents 01 and 02 in double arithmetic with libm, for comparison of times only. */
 #include "sheet.h"
 #include <math.h>
 
@@ -11,17 +11,26 @@ static double pressure(struct curve curve, double z) {
     return ceil(curve.limit * (1 - exp(-z / curve.z0)));
 }
 
-static void plain_row(const struct silo *s, uint32_t depth, const struct curve curves[3], uint32_t *row) {
-    double d_c = s->a < s->b ? s->a : s->b, e = s->e_i > s->e_o ? s->e_i : s->e_o;
+struct discharge {
+    double c_h, c_w;
+};
+
+static struct discharge discharge_of(const struct silo *s) {
+    struct factors factors = factors_of(s);
+    return (struct discharge){(double)factors.c_h / factors.bottom, (double)factors.c_w / factors.bottom};
+}
+
+static void plain_row(const struct silo *s, struct discharge discharge, uint32_t depth, const struct curve curves[3], uint32_t *row) {
+    double d_c = width_of(s), e = s->e_i > s->e_o ? s->e_i : s->e_o;
     double z = depth / 1e3, bracket = 1 - exp(-z / curves[2].z0);
-    double p_hf = pressure(curves[0], z), p_wf = ceil(curves[2].limit * bracket), p_he = ceil(s->factor / 1e2 * p_hf);
+    double p_hf = pressure(curves[0], z), p_wf = ceil(curves[2].limit * bracket), p_he = ceil(discharge.c_h * p_hf);
     row[0] = depth;
     row[1] = (uint32_t)p_hf;
     row[2] = (uint32_t)p_wf;
     row[3] = (uint32_t)pressure(curves[1], z);
     row[4] = (uint32_t)ceil(curves[2].limit * (z - curves[2].z0 * bracket));
     row[5] = (uint32_t)p_he;
-    row[6] = (uint32_t)ceil(1.1 * p_wf);
+    row[6] = (uint32_t)ceil(discharge.c_w * p_wf);
     row[7] = (uint32_t)ceil(0.2 * (1 + 4 * e / d_c) * p_he);
 }
 
@@ -53,13 +62,14 @@ uint32_t plain_loads(const uint8_t *sheet, size_t sheet_len, uint32_t *answers, 
         {s.weight * radius / (0.9 * friction * 0.9 * ratio), radius / (0.9 * ratio * 0.9 * friction)},
         {s.weight * radius, radius / (1.15 * ratio * 1.15 * friction)},
     };
+    struct discharge discharge = discharge_of(&s);
     for (uint32_t i = 0; i < s.depth_count; i++, answers += COLUMNS)
-        plain_row(&s, s.depths[i], curves, answers);
+        plain_row(&s, discharge, s.depths[i], curves, answers);
     plain_bottom(&s, radius, pressure(curves[1], foot_of(&s) / 1e3), answers);
     double edge = 0;
     for (uint32_t i = 0; i < s.strake_count; i++) {
         edge += s.strakes[i] / 1e3;
-        answers[BOTTOM + i] = (uint32_t)ceil(s.factor / 1e2 * pressure(curves[0], edge));
+        answers[BOTTOM + i] = (uint32_t)ceil(discharge.c_h * pressure(curves[0], edge));
     }
     return 0;
 }

@@ -1,4 +1,4 @@
-/* A sheet read and judged as document 01 has it, and the sheet that is measured. */
+/* A sheet read and judged as documents 01 and 02 have it, its discharge factors, and the sheets that are measured. */
 #include "sheet.h"
 #include <stdbool.h>
 
@@ -83,9 +83,9 @@ static bool product_fits(const struct silo *s) {
            (s->factor == 0 || between(s->factor, 100, 200));
 }
 
-/* Refusals 6 to 13, or 0. */
+/* Refusals 6 to 12, or 0. */
 static uint32_t judge(const struct silo *s) {
-    uint32_t d_c = s->a < s->b ? s->a : s->b, foot = foot_of(s);
+    uint32_t d_c = width_of(s), foot = foot_of(s);
     if (!between(s->a, 500, 50000) || !between(s->b, 500, 50000))
         return 6;
     if (!product_fits(s))
@@ -100,9 +100,7 @@ static uint32_t judge(const struct silo *s) {
     for (uint32_t i = 0; i < s->depth_count; i++)
         if (s->depths[i] > foot || (i > 0 && s->depths[i] <= s->depths[i - 1]))
             return 11;
-    if (foot + s->hopper >= 10 * d_c)
-        return 12;
-    return 2 * (foot + s->hopper) < 3 * d_c ? 13 : 0;
+    return foot + s->hopper >= 10 * d_c ? 12 : 0;
 }
 
 uint32_t read_sheet(const uint8_t *sheet, size_t length, struct silo *s) {
@@ -133,12 +131,30 @@ uint32_t foot_of(const struct silo *s) {
     return foot;
 }
 
+uint32_t width_of(const struct silo *s) {
+    return s->a < s->b ? s->a : s->b;
+}
+
+struct factors factors_of(const struct silo *s) {
+    uint64_t d_c = width_of(s), h = (uint64_t)foot_of(s) + s->hopper;
+    if (2 * h >= 3 * d_c)
+        return (struct factors){s->factor, 110, 100};
+    uint64_t above = h > d_c ? h - d_c : 0, one = 100 * d_c;
+    return (struct factors){one + 2 * (s->factor - 100) * above, one + 20 * above, one};
+}
+
 struct silo tower(uint32_t depth_count, uint32_t strake_count) {
     struct silo s = {6000, 6000, 9000, 55, 30, 130, 200, 400, 3000, 2500, strake_count, depth_count, {0}, {0}};
     for (uint32_t i = 0; i < strake_count; i++)
         s.strakes[i] = 1000;
     for (uint32_t i = 0; i < depth_count; i++)
         s.depths[i] = 1000 * strake_count * (i + 1) / depth_count;
+    return s;
+}
+
+struct silo squat(uint32_t depth_count, uint32_t strake_count) {
+    struct silo s = tower(depth_count, strake_count);
+    s.a = s.b = 20000;
     return s;
 }
 

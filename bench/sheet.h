@@ -1,4 +1,5 @@
-/* What the measured programs share: a sheet's numbers, its reading with refusals 1 to 13, and the sheet that is measured. */
+/* What the measured programs share: a sheet's numbers, its reading with refusals 1 to 12, its discharge factors, and the sheets that are
+ * measured. */
 #ifndef SHEET_H
 #define SHEET_H
 
@@ -15,7 +16,7 @@ struct silo {
     uint32_t strakes[MAX_STRAKES], depths[MAX_DEPTHS];
 };
 
-/* The refusal, 1 to 13, or 0 with the silo's numbers, a factor of 0 read as 135. */
+/* The refusal, 1 to 12, or 0 with the silo's numbers, a factor of 0 read as 135. */
 uint32_t read_sheet(const uint8_t *sheet, size_t length, struct silo *s);
 
 /* The same with refusal 14 as well, for a list of that length. */
@@ -26,8 +27,22 @@ size_t answers_length(const struct silo *s);
 /* V, the sum of the strakes. */
 uint32_t foot_of(const struct silo *s);
 
+/* d, or the shorter side. */
+uint32_t width_of(const struct silo *s);
+
+/* C_h and C_w, exact, over one bottom. */
+struct factors {
+    uint64_t c_h, c_w, bottom;
+};
+
+/* Document 01's for a slender silo, those of C-11 for a squat one. */
+struct factors factors_of(const struct silo *s);
+
 /* 6 m wide over a hopper of 3 m, with strakes of 1 m, at least eight, and that many depths down the wall. */
 struct silo tower(uint32_t depth_count, uint32_t strake_count);
+
+/* The same, 20 m wide: with 24 strakes squat and higher than wide. */
+struct silo squat(uint32_t depth_count, uint32_t strake_count);
 
 /* Writes the sheet of a circular silo, at most MAX_SHEET bytes, and tells its length. */
 size_t write_sheet(const struct silo *s, uint8_t *sheet);

@@ -1,5 +1,6 @@
-/* Asks for the loads of a circular tower of 5 m by 10 m, and of the same tower one strake high, which is refused as squat; then whether
- * the tower's strakes are governed by its product or by barley. */
+/* Asks for the loads of a circular tower of 5 m by 10 m, and of a squat bin of the same section and product, 6 m high: at 5 m the same
+ * filling pressures, less on discharge. Then of the bin at a depth below its foot, which is refused, and whether the tower's strakes are
+ * governed by its product or by barley. */
 #include "silo.h"
 #include <inttypes.h>
 #include <stdio.h>
@@ -10,17 +11,20 @@
 #define U32(n) (n) & 255, (n) >> 8 & 255, (n) >> 16 & 255, (n) >> 24
 #define RECORD(length, kind) U16(length), U16(kind)
 
-/* A circle of 5,000 mm; 9,000 N/m3, Ks 50, mu 40, C0 140; no eccentricity; a flat floor. */
-#define TOWER                                                                                                                  \
+/* What both have: a circle of 5,000 mm; 9,000 N/m3, Ks 50, mu 40, C0 140; no eccentricity; a flat floor. */
+#define COMMON                                                                                                                 \
     RECORD(4, 1), U32(5000), RECORD(10, 3), U32(9000), U16(50), U16(40), U16(140), RECORD(8, 4), U32(0), U32(0), RECORD(8, 5), \
         U32(0), U32(0)
 
 /* Five strakes of 2,000 mm, and depths of 0 and 5,000 mm. */
-static const uint8_t tower[] = {TOWER,     RECORD(10, 6), U16(2000),    U16(2000), U16(2000),
+static const uint8_t tower[] = {COMMON,    RECORD(10, 6), U16(2000),    U16(2000), U16(2000),
                                 U16(2000), U16(2000),     RECORD(8, 7), U32(0),    U32(5000)};
 
-/* One strake, and the depth 0. */
-static const uint8_t squat[] = {TOWER, RECORD(2, 6), U16(2000), RECORD(4, 7), U32(0)};
+/* Three strakes: h/d_c = 1.2, so C_h = 1.16 and C_w = 1.04, where the tower has 1.4 and 1.1. */
+#define BIN COMMON, RECORD(6, 6), U16(2000), U16(2000), U16(2000)
+
+static const uint8_t squat[] = {BIN, RECORD(4, 7), U32(5000)};
+static const uint8_t below[] = {BIN, RECORD(4, 7), U32(6001)};
 
 static void print_loads(const char *name, const uint8_t *sheet, size_t sheet_len) {
     uint32_t answers[8 * 200 + 10 + 24];
@@ -51,7 +55,8 @@ static void print_governing(void) {
 
 int main(void) {
     print_loads("tower", tower, sizeof tower);
-    print_loads("squat", squat, sizeof squat);
+    print_loads("squat bin", squat, sizeof squat);
+    print_loads("below the foot", below, sizeof below);
     print_governing();
     return 0;
 }

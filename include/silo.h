@@ -1,4 +1,4 @@
-/* Wall loads of a slender, gravity-emptied silo by ENV 1991-4. Link with libsilo.a.
+/* Wall loads of a gravity-emptied silo, slender or squat, by ENV 1991-4. Link with libsilo.a.
  *
  * A sheet is six records, one after another. A record is a two-byte payload length, a two-byte kind, then the payload; all
  * numbers are little-endian and unsigned. In this order:
@@ -11,7 +11,12 @@
  *   kind 6  strakes    1 to 24 u16 heights, top first (mm)
  *   kind 7  depths     1 to 200 u32 depths below the brim, strictly rising (mm)
  *
- * d_c is d or the shorter side, V the sum of the strakes, h = V + H.
+ * d_c is d or the shorter side, V the sum of the strakes, h = V + H. On discharge p_he = C_h p_hf and p_we = C_w p_wf, each rounded
+ * up once; with C0 as a ratio:
+ *
+ *   slender, 2h >= 3 d_c            C_h = C0                           C_w = 1.1
+ *   squat, 2h < 3 d_c, and h > d_c  C_h = 1 + 2 (C0 - 1) (h/d_c - 1)   C_w = 1 + 0.2 (h/d_c - 1)
+ *   squat, and h <= d_c             C_h = 1                            C_w = 1
  *
  * An answer list is of u32 numbers:
  *
@@ -35,7 +40,7 @@
  *   10  a strake outside 200..3,000 mm
  *   11  a depth over V, or not greater than the one before it
  *   12  h >= 10 d_c
- *   13  squat: 2h < 3 d_c
+ *   13  retired: no call answers it, and the number is not used again
  *   14  the answer list is not exactly of the length due (silo_loads only)
  *   15  no such row or wall in the catalogue (silo_catalogue only)
  *   16  the catalogue buffer is not of 14 bytes (silo_catalogue only)
@@ -59,11 +64,11 @@ extern "C" {
 #define SILO_PRODUCT_RECORD 14
 
 /* Fills the answer list of answers_len numbers for the sheet of sheet_len bytes.
- * Returns 0; or a refusal, 1 to 14, and the list is as it was. */
+ * Returns 0; or a refusal, 1 to 12 or 14, and the list is as it was. */
 uint32_t silo_loads(const uint8_t *sheet, size_t sheet_len, uint32_t *answers, size_t answers_len);
 
 /* The answer list's length in numbers, 8 times the depths plus 10 plus the strakes.
- * Returns SILO_LENGTH_MARK plus that length; or a refusal, 1 to 13. */
+ * Returns SILO_LENGTH_MARK plus that length; or a refusal, 1 to 12. */
 uint64_t silo_answers_length(const uint8_t *sheet, size_t sheet_len);
 
 /* Writes the product record of a row of table 7.1 of ENV 1991-4, rows counted from 0 in its order: barley, cement, clinker, dry

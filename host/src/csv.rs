@@ -140,5 +140,14 @@ fn description(report: &Report, dialect: Dialect) -> String {
     add("hopper run", silo.hopper_run.to_string(), "mm");
     add("wall height", silo.wall_height().to_string(), "mm");
     add("strakes", dialect.text(&text::runs(&silo.strakes)), "mm");
+    let discharge = report.discharge();
+    add("kind", discharge.shape.word().to_string(), "");
+    for (name, fraction) in discharge.fractions() {
+        let rounded = match fraction.is_decimal() {
+            true => String::new(),
+            false => format!("rounded from {}/{}", fraction.top, fraction.bottom),
+        };
+        add(name, dialect.number(&fraction.decimal()), &rounded);
+    }
     page
 }

@@ -120,6 +120,11 @@ impl Description {
         self.wall_height() + u64::from(self.hopper_height)
     }
 
+    /// The library calculates it.
+    pub fn is_accepted(&self) -> bool {
+        library::answers_length(&self.to_bytes()).is_ok()
+    }
+
     /// The sheet of six records. At most `MOST_STRAKES` and `MOST_DEPTHS` can be written.
     pub fn to_bytes(&self) -> Vec<u8> {
         let product = &self.product;

@@ -38,7 +38,7 @@ pub fn page(report: &Report, curves: &Loads) -> String {
     svg.page(&name)
 }
 
-/// The name, product and sizes; the last line's height. A name that is too long for a line stands
+/// The name, product, kind and sizes; the last line's height. A name that is too long for a line stands
 /// in the title block alone.
 fn title(svg: &mut Svg, report: &Report, curves: &Loads, name: &str) -> f64 {
     let most = TABLE.1 - LEFT;
@@ -50,7 +50,7 @@ fn title(svg: &mut Svg, report: &Report, curves: &Loads, name: &str) -> f64 {
     let mut sizes = sizes(report.silo);
     sizes.extend(wall_load(report, curves));
     let sizes = sizes.iter().map(|part| part.replace(' ', "\u{a0}")).collect::<Vec<String>>();
-    for text in [report.product(), sizes.join(", ")] {
+    for text in [report.product(), report.discharge().shown(), sizes.join(", ")] {
         for line in wrap::lines(&text, NOTE, most) {
             y += 14.5;
             svg.text("start note", (LEFT, y), &line);

@@ -92,6 +92,10 @@ fn description(report: &Report) -> String {
         Section::Circle(d) => ("diameter_mm", d.to_string()),
         Section::Rectangle(a, b) => ("sides_mm", numbers(&[a, b])),
     };
+    let discharge = report.discharge();
+    let [slenderness, horizontal, friction] = discharge.fractions().map(|(_, fraction)| {
+        object(&[("top", fraction.top.to_string()), ("bottom", fraction.bottom.to_string())])
+    });
     object(&[
         section,
         ("product", string(&report.origin.shown(product))),
@@ -105,5 +109,9 @@ fn description(report: &Report) -> String {
         ("hopper_height_mm", silo.hopper_height.to_string()),
         ("hopper_run_mm", silo.hopper_run.to_string()),
         ("strakes_mm", numbers(&silo.strakes)),
+        ("kind", string(discharge.shape.word())),
+        ("h_per_d_c", slenderness),
+        ("C_h", horizontal),
+        ("C_w", friction),
     ])
 }

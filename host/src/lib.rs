@@ -3,8 +3,10 @@
 pub mod catalogue;
 pub mod commands;
 pub mod description;
+pub mod discharge;
 pub mod draw;
 pub mod files;
+pub mod fraction;
 pub mod library;
 pub mod name;
 pub mod number;

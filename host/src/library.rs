@@ -20,7 +20,7 @@ const MEANINGS: [&str; 16] = [
     "a strake is outside 200 to 3000 mm",
     "a depth is below the wall's foot or not greater than the one before",
     "too slender: wall and hopper are 10 or more times as high as the diameter or shorter side",
-    "squat: wall and hopper are less than 1.5 times as high as the diameter or shorter side",
+    "retired, and never answered: squat silos are calculated",
     "the answer list is not of the length due",
     "the catalogue has no such row or wall",
     "the catalogue buffer is not of 14 bytes",
@@ -39,7 +39,6 @@ impl Refusal {
     pub const STRAKE: Refusal = Refusal(10);
     pub const DEPTH: Refusal = Refusal(11);
     pub const TOO_SLENDER: Refusal = Refusal(12);
-    pub const SQUAT: Refusal = Refusal(13);
     pub const ANSWERS_LENGTH: Refusal = Refusal(14);
     pub const NO_SUCH_ROW: Refusal = Refusal(15);
     pub const RECORD_LENGTH: Refusal = Refusal(16);

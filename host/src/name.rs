@@ -154,7 +154,10 @@ const ELSEWHERE: [(&[&str], &str); 4] = [
     ),
     (&["width", "length"], "write diameter = 5000 mm or sides = 4000 x 6000 mm"),
     (&["bottom"], "write floor = flat, or a hopper by hopper height and hopper run"),
-    (&["headroom", "fill level"], "the grain is taken as level with the brim; leave the line out"),
+    (
+        &["headroom", "fill level", "heap", "surcharge", "angle of repose"],
+        "the grain is taken as level with the brim; leave the line out",
+    ),
 ];
 
 impl Name {

@@ -28,7 +28,7 @@ pub struct Place {
 const MOST: usize = 5;
 
 /// The rules on a silo's numbers, in the order in which they are tried.
-const RULES: [Refusal; 8] = [
+const RULES: [Refusal; 7] = [
     Refusal::SECTION,
     Refusal::PRODUCT,
     Refusal::ECCENTRICITY,
@@ -36,7 +36,6 @@ const RULES: [Refusal; 8] = [
     Refusal::STRAKE,
     Refusal::DEPTH,
     Refusal::TOO_SLENDER,
-    Refusal::SQUAT,
 ];
 
 /// Sizes that other numbers are measured by.
@@ -105,7 +104,7 @@ fn judged(refusal: Refusal, silo: &Description, sizes: &Sizes) -> Vec<Place> {
         Refusal::BOTTOM => bottom(silo, sizes),
         Refusal::STRAKE => strakes(silo),
         Refusal::DEPTH => depths(silo, sizes),
-        Refusal::TOO_SLENDER | Refusal::SQUAT => shape(refusal, sizes).into_iter().collect(),
+        Refusal::TOO_SLENDER => shape(sizes).into_iter().collect(),
         _ => Vec::new(),
     };
     let more = found.len().saturating_sub(MOST);
@@ -280,11 +279,23 @@ fn strakes(silo: &Description) -> Vec<Place> {
             if run.len() > 1 {
                 place.why += &format!(" (strakes {} to {last})", first + 1);
             }
+            if let [height] = silo.strakes[..] {
+                place.why += &in_strakes(height.into()).unwrap_or_default();
+            }
             place
         }));
         first = last;
     }
     found
+}
+
+/// A wall in one piece as equal strakes, the fewest that come out even.
+fn in_strakes(wall: u64) -> Option<String> {
+    let fewest = wall.div_ceil(HIGHEST_STRAKE).max(2);
+    let count = (fewest..=MOST_STRAKES).find(|count| wall.is_multiple_of(*count))?;
+    let each = wall / count;
+    let is_strake = (STRAKE.limits.0..=HIGHEST_STRAKE).contains(&each);
+    is_strake.then(|| format!("; a wall in one piece is written as {count} x {each} mm"))
 }
 
 fn depths(silo: &Description, sizes: &Sizes) -> Vec<Place> {
@@ -303,23 +314,18 @@ fn depths(silo: &Description, sizes: &Sizes) -> Vec<Place> {
     found
 }
 
-/// Of a silo that keeps or breaks one of the two limits on its shape: h < 10 d_c and 2h >= 3 d_c.
-fn shape(refusal: Refusal, sizes: &Sizes) -> Option<Place> {
+/// A silo with h >= 10 d_c.
+fn shape(sizes: &Sizes) -> Option<Place> {
     let (width, wall, hopper) = (sizes.width?, sizes.wall?, sizes.hopper?);
-    let height = wall + hopper;
-    let limit = match refusal {
-        Refusal::SQUAT if 2 * height < 3 * width => format!(
-            "at least 1.5 times {width} mm, {} mm; add strakes or take a narrower silo",
-            (3 * width).div_ceil(2)
-        ),
-        Refusal::TOO_SLENDER if height >= 10 * width => {
-            let lower = if hopper > 0 { "take off strakes or hopper" } else { "take off strakes" };
-            format!("under 10 times {width} mm, {} mm; {lower} or take a wider silo", 10 * width)
-        }
-        _ => return None,
-    };
+    let (height, limit) = (wall + hopper, 10 * width);
+    if height < limit {
+        return None;
+    }
     let made = format!("wall {wall} mm and hopper {hopper} mm make h = {height} mm");
-    Some(Place { field: Field::Line(Name::Strakes), why: format!("{made}; it must be {limit}") })
+    let limit = format!("it must be under 10 times {width} mm, {limit} mm");
+    let lower = if hopper > 0 { "take off strakes or hopper" } else { "take off strakes" };
+    let why = format!("{made}; {limit}; {lower} or take a wider silo");
+    Some(Place { field: Field::Line(Name::Strakes), why })
 }
 
 impl Field {

@@ -3,6 +3,7 @@
 
 use crate::catalogue::Origin;
 use crate::description::{Description, Section};
+use crate::discharge::{Discharge, Shape};
 use crate::library::{Loads, ROW};
 use crate::number::hundredths;
 use crate::units::Units;
@@ -41,6 +42,10 @@ impl Report<'_> {
         )
     }
 
+    pub fn discharge(&self) -> Discharge {
+        Discharge::of(self.silo)
+    }
+
     /// A depth's numbers as ENV names them, and their units.
     pub fn columns(&self) -> [(&'static str, &'static str); ROW] {
         let (pressure, per_metre) = (self.units.pressure(), self.units.per_metre());
@@ -65,11 +70,15 @@ impl Report<'_> {
     /// What the loads leave out, as far as it applies to this silo.
     pub fn notes(&self) -> Vec<String> {
         let silo = self.silo;
+        let discharge = self.discharge();
+        let flat_and_squat = silo.is_flat() && discharge.shape != Shape::Slender;
         let notes = [
             Some(EDITION.to_string()),
             self.origin.has_friction_on_steel(&silo.product).then(|| friction(silo)),
-            Some(WALL_LOAD.to_string()),
+            Some(wall_load(&discharge)),
             Some(patch(silo)),
+            unreduced(discharge.shape).map(str::to_string),
+            flat_and_squat.then(|| HEAP.to_string()),
             (!silo.is_flat()).then(|| TRANSITION.to_string()),
             silo.outlet_is_passed().then(|| eccentricity(silo)),
         ];
@@ -79,10 +88,36 @@ impl Report<'_> {
 
 const EDITION: &str =
     "ENV 1991-4:1995, which EN 1991-4:2006 has replaced; characteristic values without partial factors.";
-const WALL_LOAD: &str =
-    "P_w is the filling value; on discharge the factor on wall friction, 1.1, applies to it too (5.20).";
+const HEAP: &str =
+    "Flat floor: its load (5.13) is for grain level with the brim. Under a heap 5.37 gives a greater one for squat silos, which is not \
+     calculated: this errs on the light side.";
 const TRANSITION: &str =
     "Hopper: without the extra pressure at the transition of a mass-flow hopper (5.26), which these rules do not cover.";
+
+fn wall_load(discharge: &Discharge) -> String {
+    let discharge = match discharge.shape {
+        Shape::Low => "C_w is 1, so discharge adds nothing to it (5.33)".to_string(),
+        Shape::Slender | Shape::Squat => format!(
+            "on discharge C_w {}, the factor on wall friction, applies to it too (5.20)",
+            discharge.friction.shown()
+        ),
+    };
+    format!("P_w is the filling value; {discharge}.")
+}
+
+/// What clause 5.3 lets be less in a squat silo.
+fn unreduced(shape: Shape) -> Option<&'static str> {
+    match shape {
+        Shape::Slender => None,
+        Shape::Squat => Some(
+            "Squat silo: patch load (5.36) and pressure near the surface (5.3, 3) are not reduced; both err on the heavy side.",
+        ),
+        Shape::Low => Some(
+            "Squat silo, no higher than wide: the patch load is given, which 5.33 makes 0, and the pressure near the surface is not \
+             reduced (5.3, 3); both err on the heavy side.",
+        ),
+    }
+}
 
 fn friction(silo: &Description) -> String {
     format!(
@@ -100,7 +135,8 @@ fn eccentricity(silo: &Description) -> String {
 
 /// Where the patch load acts (5.2.1.1 and 5.24).
 fn patch(silo: &Description) -> String {
-    let side = tenths(2 * u64::from(silo.section.shorter_side()));
+    let side_in_tenths = 2 * u64::from(silo.section.shorter_side());
+    let side = tenths(side_in_tenths);
     let place = match silo.section {
         Section::Circle(_) => {
             format!(
@@ -111,7 +147,9 @@ fn patch(silo: &Description) -> String {
             format!("two opposite squares of s = {side} mm at any place of the wall (5.10)")
         }
     };
-    format!("p_he and the strakes' numbers are without the patch load p_p, which is to be added: it acts on {place}.")
+    let is_lower = 10 * silo.wall_height() < side_in_tenths;
+    let lower = if is_lower { " The wall is lower than s." } else { "" };
+    format!("p_he and the strakes' numbers are without the patch load p_p, which is to be added: it acts on {place}.{lower}")
 }
 
 /// A number of tenths, without a zero behind the point.

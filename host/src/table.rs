@@ -50,11 +50,12 @@ fn heading(report: &Report) -> String {
     let [filling, outlet] = [silo.filling_eccentricity, silo.outlet_eccentricity];
     heading
         + &format!(
-            "{section}, wall V {} mm in strakes of {} mm, {bottom}\n{}\n\
+            "{section}, wall V {} mm in strakes of {} mm, {bottom}\n{}\n{}\n\
              eccentricities: filling e_i {filling} mm, outlet e_o {outlet} mm\n",
             silo.wall_height(),
             text::runs(&silo.strakes),
-            report.product()
+            report.product(),
+            report.discharge().shown()
         )
 }
 

@@ -5,6 +5,7 @@ mod common;
 use common::Random;
 use silo::commands;
 use silo::description::{Description, Product, Section};
+use silo::discharge::{Discharge, Shape};
 use silo::library::{self, Refusal};
 use silo::{place, text};
 
@@ -61,9 +62,12 @@ fn description(random: &mut Random, i: usize) -> Description {
     }
 }
 
-/// Mostly accepted; in one of two silos one number may be at fault.
+/// Mostly accepted, slender or squat; in one of two silos one number may be at fault.
 fn slipped(random: &mut Random) -> Description {
     let mut silo = usual_description(random);
+    if random.below(2) == 0 {
+        silo.section = Section::Circle(random.of(&[7000, 9000, 12_000, 30_000, 50_000]));
+    }
     let number = number(random);
     match random.below(16) {
         0 => silo.section = Section::Circle(number),
@@ -131,16 +135,24 @@ fn bytes_to_text_and_back_are_the_same() {
 #[test]
 fn explanations_agree_with_the_library() {
     let mut random = Random(611);
-    let mut met = [0; 14];
+    let mut met = [0; 13];
+    let mut shapes = [0; 3];
     for i in 0..100_000 {
         let silo = description(&mut random, i);
         let found = |number: &u32| !place::places(Refusal(*number), &silo).is_empty();
         let verdict = library::answers_length(&silo.to_bytes()).err();
-        assert_eq!(verdict, (6..=13).find(found).map(Refusal), "{silo:?}");
+        assert_eq!(verdict, (6..=16).find(found).map(Refusal), "{silo:?}");
         met[verdict.map_or(0, |refusal| refusal.0) as usize] += 1;
+        if verdict.is_none() {
+            let shape = Discharge::of(&silo).shape;
+            let place = [Shape::Slender, Shape::Squat, Shape::Low].iter().position(|s| *s == shape);
+            shapes[place.expect("a shape")] += 1;
+        }
     }
-    println!("100,000 descriptions, accepted and refused 1 to 13: {met:?}");
-    assert!(met[0] > 1000 && met[6..].iter().all(|count| *count > 0));
+    println!(
+        "100,000 descriptions, accepted and refused 1 to 12: {met:?}; of each shape {shapes:?}"
+    );
+    assert!(shapes.iter().all(|count| *count > 1000) && met[6..].iter().all(|count| *count > 0));
 }
 
 type Slip = fn(&mut Description);

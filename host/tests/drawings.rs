@@ -5,9 +5,10 @@
 mod common;
 mod page;
 
-use common::{sample, text_with, Random};
+use common::{sample, text_with, Random, FLAT};
 use page::{Page, Text};
 use silo::description::Description;
+use silo::discharge::{Discharge, Shape};
 use silo::draw;
 use silo::library::Loads;
 use silo::report::{Labels, Report, PROGRAM};
@@ -15,12 +16,10 @@ use silo::text;
 use silo::units::Units;
 use std::path::PathBuf;
 
-const FLAT: [(&str, &str); 3] = [("hopper height", "-"), ("hopper run", "-"), ("floor", "flat")];
-
 /// What differs from the silo of `common`; `true` has a flat floor.
 type Case = (&'static str, bool, &'static [(&'static str, &'static str)]);
 
-const CASES: [Case; 24] = [
+const CASES: [Case; 36] = [
     ("bin", false, &[]),
     ("tower", true, &[]),
     ("eccentric-tower", true, &[("e_o", "1 m"), ("e_i", "20 mm")]),
@@ -167,6 +166,90 @@ const CASES: [Case; 24] = [
             ("e_o", "125 mm"),
         ],
     ),
+    ("lowest-store", true, &[("diameter", "50 m"), ("strakes", "200 mm")]),
+    (
+        "low-store",
+        true,
+        &[("diameter", "50 m"), ("strakes", "3 x 1 m"), ("e_i", "12.5 m"), ("e_o", "12500 mm")],
+    ),
+    (
+        "low-store-of-many-strakes",
+        true,
+        &[("diameter", "50 m"), ("strakes", "24 x 200 mm"), ("e_i", "1 mm"), ("e_o", "1 mm")],
+    ),
+    (
+        "store-on-a-hopper",
+        false,
+        &[
+            ("diameter", "50 m"),
+            ("strakes", "2 x 3 m"),
+            ("hopper height", "12 m"),
+            ("hopper run", "24 m"),
+            ("e_o", "1000 mm"),
+        ],
+    ),
+    (
+        "store-on-the-highest-hopper",
+        false,
+        &[
+            ("diameter", "50 m"),
+            ("strakes", "24 x 200 mm"),
+            ("hopper height", "25 m"),
+            ("hopper run", "24999 mm"),
+            ("e_o", "12500 mm"),
+        ],
+    ),
+    (
+        "store-on-a-low-hopper",
+        false,
+        &[
+            ("diameter", "50 m"),
+            ("strakes", "3 m"),
+            ("hopper height", "4 m"),
+            ("hopper run", "10 m"),
+            ("e_i", "12.5 m"),
+        ],
+    ),
+    (
+        "store-on-the-lowest-hopper",
+        false,
+        &[
+            ("diameter", "50 m"),
+            ("strakes", "200 mm"),
+            ("hopper height", "1 mm"),
+            ("hopper run", "1 mm"),
+            ("e_i", "12.5 m"),
+            ("e_o", "1 mm"),
+        ],
+    ),
+    ("as-high-as-wide", true, &[("diameter", "8 m"), ("strakes", "8 x 1 m"), ("e_i", "1 m")]),
+    ("just-squat", true, &[("strakes", "2 x 3000, 1499 mm")]),
+    ("smallest-store", true, &[("diameter", "500 mm"), ("strakes", "200 mm"), ("e_o", "125 mm")]),
+    (
+        "rectangular-store",
+        true,
+        &[
+            ("diameter", "-"),
+            ("sides", "50 x 49.999 m"),
+            ("strakes", "2 x 3000 mm"),
+            ("e_o", "12 m"),
+        ],
+    ),
+    (
+        "heaviest-store",
+        false,
+        &[
+            ("diameter", "49999 mm"),
+            ("strakes", "24 x 2 m"),
+            ("hopper height", "25 m"),
+            ("hopper run", "24 m"),
+            ("weight", "30 kN/m3"),
+            ("ratio", "1.00"),
+            ("friction", "0.10"),
+            ("factor", "2.00"),
+            ("e_o", "12 m"),
+        ],
+    ),
 ];
 
 fn described(text: &str) -> (Description, silo::catalogue::Origin) {
@@ -214,6 +297,7 @@ fn drawing(name: &str, text: &str, labels: &Labels, units: Units) -> Drawing {
     let report = Report { file: &file, silo: &silo, origin: &origin, labels, loads: &loads, units };
     let svg = draw::page(&report, &curves);
     let mut said = report.notes();
+    said.push(report.discharge().shown());
     said.extend(labels.iter().map(|(_, text)| text.clone()));
     said.extend([format!("{name}.silo"), PROGRAM.to_string()]);
     let mut numbers: Vec<u32> =
@@ -244,7 +328,7 @@ fn drawings() -> Vec<Drawing> {
         .iter()
         .map(|(name, flat, changes)| (name.to_string(), case(*flat, changes)))
         .collect();
-    for name in ["wheat-tower", "barley-bin", "cement"] {
+    for name in ["wheat-tower", "barley-bin", "cement", "flat-store"] {
         let text = String::from_utf8(sample(&format!("{name}.silo"))).expect(name);
         texts.push((name.to_string(), text));
     }
@@ -322,16 +406,37 @@ fn ends(numbers: impl Iterator<Item = f64> + Clone) -> (f64, f64) {
     (numbers.clone().fold(f64::MAX, f64::min), numbers.fold(f64::MIN, f64::max))
 }
 
+/// Of the brim and of the outlet or the floor.
+fn heights(page: &Page) -> (f64, f64) {
+    ends(page.shapes("wall").flatten().map(|point| point.1))
+}
+
+/// Pixels for each mm across.
+fn scale(drawing: &Drawing) -> f64 {
+    let (left, right) = ends(drawing.page.shapes("wall").flatten().map(|point| point.0));
+    (right - left) / f64::from(drawing.silo.section.shorter_side())
+}
+
+/// Height and width have one scale, and each strake's edge that is drawn is at its depth.
+fn silo_is_to_scale(drawing: &Drawing) {
+    let (silo, (brim, outlet), scale) = (&drawing.silo, heights(&drawing.page), scale(drawing));
+    // both ends of a length are rounded to tenths of a pixel
+    let least = 0.11 + 0.11 * silo.height() as f64 / f64::from(silo.section.shorter_side());
+    let near = |y: f64, z: u64| (y - brim - z as f64 * scale).abs() < least;
+    assert!(near(outlet, silo.height()), "{}: {brim} {outlet} {scale}", drawing.name);
+    for edge in drawing.page.shapes("edge") {
+        let at_depth = silo.edges().any(|(_, z)| near(edge[0].1, z));
+        assert!(at_depth, "{}: {brim} {edge:?} {scale}", drawing.name);
+    }
+}
+
 /// The filling's arrow ends on the grain and the outflow's stands at the outlet, at its
 /// eccentricity where the outlet reaches that far; a dimension from the axis goes to each
 /// eccentricity.
 fn arrows_at_openings(drawing: &Drawing) {
     let (page, silo) = (&drawing.page, &drawing.silo);
-    let walls: Vec<(f64, f64)> = page.shapes("wall").flatten().copied().collect();
-    let (brim, outlet) = ends(walls.iter().map(|point| point.1));
-    let (left, right) = ends(walls.iter().map(|point| point.0));
+    let ((brim, outlet), scale) = (heights(page), scale(drawing));
     let axis = page.shapes("axis").next().expect("an axis")[0].0;
-    let scale = (right - left) / f64::from(silo.section.shorter_side());
     let place = |eccentricity: u32| axis + f64::from(eccentricity) * scale;
     let [filling, eccentric] = [silo.filling_eccentricity, silo.outlet_eccentricity].map(place);
     let outflow = if silo.outlet_is_passed() { axis } else { eccentric };
@@ -371,6 +476,7 @@ fn every_drawing_can_be_printed_and_read() {
     let faults: String = drawings.iter().flat_map(faults).collect();
     assert!(faults.is_empty(), "{faults}");
     for drawing in &drawings {
+        silo_is_to_scale(drawing);
         arrows_at_openings(drawing);
         hopper_has_leaders(drawing);
     }
@@ -442,8 +548,8 @@ fn any_silo(random: &mut Random) -> String {
 #[test]
 fn any_drawing_can_be_printed_and_read() {
     let mut random = Random(1991);
-    let mut drawn = 0;
-    while drawn < 300 {
+    let (mut drawn, mut squat) = (0, 0);
+    while drawn < 600 {
         let text = any_silo(&mut random);
         let (silo, _) = described(&text);
         if Loads::of(&silo.to_bytes(), silo.strakes.len()).is_err() {
@@ -454,8 +560,12 @@ fn any_drawing_can_be_printed_and_read() {
         let units = random.of(&[Units::Whole, Units::Kilo]);
         let drawing = drawing("any", &text, &labels, units);
         assert_eq!(faults(&drawing), Vec::<String>::new(), "{text}");
+        silo_is_to_scale(&drawing);
         arrows_at_openings(&drawing);
         hopper_has_leaders(&drawing);
         drawn += 1;
+        squat += u32::from(Discharge::of(&drawing.silo).shape != Shape::Slender);
     }
+    println!("{drawn} drawn, of which {squat} are squat");
+    assert!(squat > 200 && drawn - squat > 200, "{squat} squat");
 }

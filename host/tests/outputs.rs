@@ -3,7 +3,7 @@
 
 mod common;
 
-use common::{stored, text_with};
+use common::{stored, text_with, FLAT};
 use silo::commands::{self, Format};
 use silo::units::Units;
 
@@ -86,10 +86,33 @@ fn a_product_is_shown_with_its_origin() {
     }
 }
 
-/// A note's first words, and silos with and without it.
-const NOTES: [(&str, &[Changes], &[Changes]); 5] = [
+/// h/d_c 1.1 and 0.7 with the hopper, 0.4 and 2 without it.
+const SQUAT: Changes = &[("strakes", "2 x 2000 mm"), ("depths", "0 mm")];
+const LOW: Changes = &[("strakes", "2000 mm"), ("depths", "0 mm")];
+const LOW_FLAT: Changes = &[LOW[0], LOW[1], FLAT[0], FLAT[1], FLAT[2]];
+
+/// A note's words, and silos with and without it.
+const NOTES: [(&str, &[Changes], &[Changes]); 11] = [
     ("ENV 1991-4:1995, which EN 1991-4:2006 has replaced; characteristic values", &[&[]], &[]),
     ("P_w is the filling value", &[&[], &[("diameter", "-"), ("sides", "4.5 x 6 m")]], &[]),
+    ("on discharge C_w 1.1, the factor on wall friction, applies to it too (5.20)", &[&[]], &[SQUAT, LOW]),
+    ("on discharge C_w 1.02, the factor on wall friction, applies to it too (5.20)", &[SQUAT], &[&[], LOW]),
+    ("C_w is 1, so discharge adds nothing to it (5.33)", &[LOW, LOW_FLAT], &[&[], SQUAT]),
+    (
+        "patch load (5.36) and pressure near the surface (5.3, 3) are not reduced; both err on the heavy side",
+        &[SQUAT],
+        &[&[], LOW, LOW_FLAT],
+    ),
+    (
+        "the patch load is given, which 5.33 makes 0, and the pressure near the surface is not reduced (5.3, 3); both err on the heavy",
+        &[LOW, LOW_FLAT],
+        &[&[], SQUAT],
+    ),
+    (
+        "Under a heap 5.37 gives a greater one for squat silos, which is not calculated: this errs on the light side",
+        &[LOW_FLAT],
+        &[&[], SQUAT, LOW, &FLAT],
+    ),
     (
         "does not hold for corrugated walls",
         &[
@@ -102,19 +125,14 @@ const NOTES: [(&str, &[Changes], &[Changes]); 5] = [
     (
         "extra pressure at the transition of a mass-flow hopper (5.26)",
         &[&[]],
-        &[&[("hopper height", "-"), ("hopper run", "-"), ("floor", "flat")]],
+        &[&FLAT],
     ),
     (
         "the hopper is calculated as symmetric",
         &[&[("outlet eccentricity", "501 mm")]],
         &[
             &[("outlet eccentricity", "500 mm")],
-            &[
-                ("outlet eccentricity", "501 mm"),
-                ("hopper height", "-"),
-                ("hopper run", "-"),
-                ("floor", "flat"),
-            ],
+            &[("outlet eccentricity", "501 mm"), FLAT[0], FLAT[1], FLAT[2]],
         ],
     ),
 ];
@@ -157,6 +175,12 @@ fn the_patch_acts_on_a_band_or_on_squares() {
     let sides =
         plain(&output(&[("diameter", "-"), ("sides", "6 x 4.5 m")], Format::Table, Units::Whole));
     assert!(sides.contains(&plain("two opposite squares of s = 900 mm")), "{sides}");
+    for (height, is_lower) in [("1000 mm", false), ("999 mm", true)] {
+        let text = text_with(&[("strakes", height), ("depths", "0 mm")]);
+        let outcome = commands::loads("bin.silo", text.as_bytes(), Format::Table, Units::Whole);
+        let page = plain(&String::from_utf8(outcome.output).expect("UTF-8"));
+        assert_eq!(page.contains(&plain("The wall is lower than s.")), is_lower, "{page}");
+    }
 }
 
 const LABELS: Changes = &[
@@ -328,8 +352,9 @@ fn columns_never_run_together() {
         ("depths", "strake edges"),
     ];
     let numbers = |page: &str| -> Vec<Vec<String>> {
-        let rows =
-            page.lines().filter(|line| line.trim_start().starts_with(|c: char| c.is_ascii_digit()));
+        let tables = page.split("\nNotes\n").next().unwrap_or("");
+        let is_row = |line: &&str| line.trim_start().starts_with(|c: char| c.is_ascii_digit());
+        let rows = tables.lines().filter(is_row);
         rows.map(|line| line.split_whitespace().map(|cell| cell.replace('.', "")).collect())
             .collect()
     };

@@ -54,6 +54,7 @@ const BAD: &[&[(&str, &str)]] = &[
     &[("h", "16 m")],
     &[("wall height", "16 m")],
     &[("headroom", "300 mm")],
+    &[("angle of repose", "25 deg")],
     &[("volume", "300 m3")],
     &[("dimaeter", "5 m")],
     &[("hopper", "2 m")],

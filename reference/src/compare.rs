@@ -1,25 +1,41 @@
-//! The comparison of a library with document 01, for sheets of any kind.
+//! The comparison of a library with document 01 and with C-11 of document 02, for sheets of any kind.
 //!
 //! For an accepted sheet: filling pressures and P_w inside their bands, each load made from filling equal to its formula over the
 //! filling pressures and inside its allowance, nothing falling with depth. For a refused one: its number from both calls, and the
 //! list as it was.
 
 use crate::calls::{expect, Calls, Difference, Library, Outcome, UNTOUCHED, UNTOUCHED_BYTE};
-use crate::formulas::{self, Filling};
+use crate::formulas::{self, Discharge, Filling};
 use crate::fraction::{fraction, least, whole, Fraction, Real};
 use crate::sheet::{parse, Silo};
 use crate::{catalogue, governing};
 use std::fmt;
 
+/// The refusals of the two calls that take a sheet; 13 is retired.
+pub const REFUSALS: [usize; 13] = [1, 2, 3, 4, 5, 6, 7, 8, 9, 10, 11, 12, 14];
+
+/// Kinds of silos by h/d_c: the three of the discharge factors, their limits apart.
+const SHAPES: [&str; 5] = ["below 1", "1", "between 1 and 1.5", "1.5", "above 1.5"];
+
+/// A silo's kind: how many of these it has reached.
+fn shape(silo: &Silo) -> usize {
+    let (h, d_c) = (silo.height(), silo.d_c());
+    let limits = [h >= d_c, h > d_c, 2 * h >= 3 * d_c, 2 * h > 3 * d_c];
+    limits.into_iter().filter(|reached| *reached).count()
+}
+
 /// What was compared.
 #[derive(Default)]
 pub struct Tally {
-    pub accepted: u64,
+    /// Accepted sheets by h/d_c.
+    shapes: [u64; SHAPES.len()],
     /// Sheets by the number of their refusal; at 14 lists of a wrong length, each lent with an accepted sheet.
     pub refused: [u64; 15],
     pub rows: u64,
     pub strakes: u64,
     pub pairs: u64,
+    /// Pairs whose discharge factors differ.
+    pub unlike_pairs: u64,
     /// Filling pressures, and those of them that are less than 1 + 1/64 above.
     pub pressures: u64,
     pub tight: u64,
@@ -28,20 +44,26 @@ pub struct Tally {
 }
 
 impl Tally {
+    fn accepted(&self) -> u64 {
+        self.shapes.iter().sum()
+    }
+
     pub fn sheets(&self) -> u64 {
-        self.accepted + self.refused[..14].iter().sum::<u64>()
+        self.accepted() + self.refused[..14].iter().sum::<u64>()
     }
 }
 
 impl fmt::Display for Tally {
     fn fmt(&self, f: &mut fmt::Formatter) -> fmt::Result {
-        let refused: Vec<String> = (1..=14).map(|n| format!("{n}: {}", self.refused[n])).collect();
-        writeln!(f, "{} sheets compared, {} of them accepted", self.sheets(), self.accepted)?;
+        let shapes = SHAPES.iter().zip(self.shapes).map(|(name, count)| format!("{name}: {count}"));
+        let refused = REFUSALS.map(|n| format!("{n}: {}", self.refused[n]));
+        writeln!(f, "{} sheets compared, {} of them accepted", self.sheets(), self.accepted())?;
+        writeln!(f, "accepted, by h/d_c: {}", shapes.collect::<Vec<_>>().join(", "))?;
         writeln!(f, "refused, by number: {}", refused.join(", "))?;
         writeln!(
             f,
-            "accepted sheets had {} rows and {} strakes; {} pairs with one section and product",
-            self.rows, self.strakes, self.pairs
+            "accepted sheets had {} rows and {} strakes; {} pairs with one section and product, {} of them with unlike factors",
+            self.rows, self.strakes, self.pairs, self.unlike_pairs
         )?;
         write!(
             f,
@@ -65,10 +87,12 @@ impl<'a> Comparison<'a> {
         Comparison { calls: Calls { library, canaries: 8 }, tally: Tally::default() }
     }
 
-    /// Prints what was compared; an accepted sheet and each of these refusals have to be among it.
+    /// Prints what was compared; an accepted sheet of each kind and each of these refusals have to be among it.
     pub fn report(&self, refusals: impl IntoIterator<Item = usize>) {
         println!("{}", self.tally);
-        assert!(self.tally.accepted > 0, "no sheet was accepted");
+        for (name, count) in SHAPES.iter().zip(self.tally.shapes) {
+            assert!(count > 0, "no sheet with h/d_c {name} was accepted");
+        }
         for number in refusals {
             assert!(self.tally.refused[number] > 0, "refusal {number} was never reached");
         }
@@ -143,16 +167,18 @@ impl<'a> Comparison<'a> {
             self.tally.refused[14] += 1;
         }
         self.never_falls(&bytes, [listed, edges].concat(), &[1, 2, 3, 5, 6, 7])?;
-        self.tally.accepted += 1;
+        self.tally.shapes[shape(silo)] += 1;
         self.tally.strakes += silo.strakes.len() as u64;
         Ok(())
     }
 
-    /// Two accepted sheets with equal first two records: what section, product and depth alone decide.
+    /// Two accepted sheets with equal first two records: the filling pressures, which section, product and depth alone decide. The
+    /// discharge loads rest on h too, in which the sheets may differ.
     pub fn pair(&mut self, one: &Silo, other: &Silo) -> Outcome {
         let both = [rows(one, &self.answers(one)?), rows(other, &self.answers(other)?)].concat();
-        self.never_falls(&[one.sheet(), other.sheet()].concat(), both, &[1, 2, 3, 5, 6])?;
+        self.never_falls(&[one.sheet(), other.sheet()].concat(), both, &[1, 2, 3])?;
         self.tally.pairs += 1;
+        self.tally.unlike_pairs += u64::from(Discharge::of(one) != Discharge::of(other));
         Ok(())
     }
 
@@ -189,14 +215,14 @@ impl<'a> Comparison<'a> {
         }
         band(silo, &named(4), line, &exact.line, 2)?;
 
-        let (factor, patch) = (formulas::discharge(silo), formulas::patch(silo));
-        made(silo, &named(5), p_he, &whole(p_hf).times(&factor))?;
-        made(silo, &named(6), p_we, &whole(p_wf).times(&fraction(11, 10)))?;
+        let (Discharge { c_h, c_w }, patch) = (Discharge::of(silo), formulas::patch(silo));
+        made(silo, &named(5), p_he, &whole(p_hf).times(&c_h))?;
+        made(silo, &named(6), p_we, &whole(p_wf).times(&c_w))?;
         made(silo, &named(7), p_p, &whole(p_he).times(&patch))?;
-        let discharge = exact.horizontal.times(&factor);
-        band(silo, &named(5), p_he, &discharge, 5)?;
-        band(silo, &named(6), p_we, &exact.friction.times(&fraction(11, 10)), 4)?;
-        band(silo, &named(7), p_p, &discharge.times(&patch), 3)?;
+        let horizontal = exact.horizontal.times(&c_h);
+        band(silo, &named(5), p_he, &horizontal, 5)?;
+        band(silo, &named(6), p_we, &exact.friction.times(&c_w), 4)?;
+        band(silo, &named(7), p_p, &horizontal.times(&patch), 3)?;
         self.tally.rows += 1;
         Ok(())
     }
@@ -283,11 +309,11 @@ fn whole_n3(silo: &Silo) -> u64 {
 
 /// Each strake's p_he at its lower edge, over p_hf there, whole and exact.
 fn judge_strakes(silo: &Silo, strakes: &[u64], edges: &[Row], fillings: &[Filling]) -> Outcome {
-    let factor = formulas::discharge(silo);
+    let c_h = Discharge::of(silo).c_h;
     for (i, load) in strakes.iter().enumerate() {
         let name = format!("strake {i}");
-        made(silo, &name, *load, &whole(edges[i][1]).times(&factor))?;
-        band(silo, &name, *load, &fillings[i].horizontal.times(&factor), 5)?;
+        made(silo, &name, *load, &whole(edges[i][1]).times(&c_h))?;
+        band(silo, &name, *load, &fillings[i].horizontal.times(&c_h), 5)?;
     }
     Ok(())
 }

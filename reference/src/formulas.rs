@@ -1,4 +1,5 @@
-//! The loads of document 01 as exact numbers: lengths in metres, hundredths as plain ratios, nothing rounded.
+//! The loads of document 01, squat bins as in C-11 of document 02, as exact numbers: lengths in metres, hundredths as plain ratios, nothing
+//! rounded.
 
 use crate::exponential::exponential;
 use crate::fraction::{fraction, whole, Fraction, Real};
@@ -77,8 +78,50 @@ pub fn filling(silo: &Silo, depth: u64) -> Filling {
 }
 
 /// C0, a blank one read as 1.35.
-pub fn discharge(silo: &Silo) -> Fraction {
+pub fn c0(silo: &Silo) -> Fraction {
     fraction(if silo.factor == 0 { 135 } else { silo.factor }, 100)
+}
+
+/// h/d_c.
+pub fn slenderness(silo: &Silo) -> Fraction {
+    fraction(silo.height(), silo.d_c())
+}
+
+/// C_h and C_w, the factors of p_hf and p_wf in discharge.
+#[derive(Debug, PartialEq)]
+pub struct Discharge {
+    pub c_h: Fraction,
+    pub c_w: Fraction,
+}
+
+impl Discharge {
+    pub fn of(silo: &Silo) -> Discharge {
+        Discharge::at(&c0(silo), &slenderness(silo))
+    }
+
+    /// Slender from h/d_c = 1.5 on, squat below it.
+    pub fn at(c0: &Fraction, slenderness: &Fraction) -> Discharge {
+        if slenderness >= &fraction(3, 2) {
+            Discharge::slender(c0)
+        } else {
+            Discharge::squat(c0, slenderness)
+        }
+    }
+
+    pub fn slender(c0: &Fraction) -> Discharge {
+        Discharge { c_h: c0.clone(), c_w: fraction(11, 10) }
+    }
+
+    /// (5.34) and (5.35) where h is above d_c, else (5.33): 1 and 1.
+    pub fn squat(c0: &Fraction, slenderness: &Fraction) -> Discharge {
+        let one = whole(1);
+        let above = if slenderness > &one { slenderness.minus(&one) } else { whole(0) };
+        let magnified = |factor: Fraction| one.plus(&factor.times(&above));
+        Discharge {
+            c_h: magnified(whole(2).times(&c0.minus(&one))),
+            c_w: magnified(fraction(2, 10)),
+        }
+    }
 }
 
 /// 0.2·β, β = 1 + 4e/d_c.

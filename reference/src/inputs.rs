@@ -133,9 +133,20 @@ fn hopper(random: &mut Random, d_c: u64) -> (u64, u64) {
     (random.within(flattest, highest), run)
 }
 
-/// Strakes that make h slender, where 24 of them can.
+/// h of a slender silo about half of the time; else squat, low, or a limit of the discharge factors and the millimetre on either side.
+fn height(random: &mut Random, d_c: u64) -> u64 {
+    let slender = (3 * d_c).div_ceil(2);
+    match random.below(8) {
+        0..=2 => random.within(slender, (10 * d_c - 1).min(97_000)),
+        3..=5 => random.within(d_c, slender),
+        6 => random.within(200, d_c),
+        _ => random.pick(&[d_c, slender]) + random.below(3) - 1,
+    }
+}
+
+/// Strakes that make up such an h over the hopper, where 1 to 24 of them can.
 fn wall(random: &mut Random, d_c: u64, hopper_height: u64) -> Vec<u64> {
-    let height = random.within((3 * d_c).div_ceil(2), (10 * d_c - 1).min(97_000));
+    let height = height(random, d_c);
     let mut left = height.saturating_sub(hopper_height).clamp(200, 72_000);
     let count = random.within(left.div_ceil(3_000), (left / 200).min(24));
     let mut heights = Vec::new();
@@ -204,7 +215,7 @@ fn just_above_whole(silo: &Silo, load: u64, depths: impl Iterator<Item = u64>) -
 /// least above a whole number among all millimetres.
 pub fn heavy(random: &mut Random) -> Silo {
     let mut silo = Silo {
-        section: vec![random.within(20_000, 48_000)],
+        section: vec![random.within(20_000, 50_000)],
         weight: random.within(25_000, 30_000),
         ratio: random.within(20, 100),
         friction: random.within(10, 14),
@@ -218,12 +229,13 @@ pub fn heavy(random: &mut Random) -> Silo {
     silo
 }
 
-/// Another accepted silo with the same section and product, and depths beside the first one's.
+/// Another accepted silo with the same section and product, another h, and depths beside the first one's.
 pub fn sibling(random: &mut Random, silo: &Silo) -> Silo {
     loop {
         let mut sibling = silo.clone();
         sibling.e_o = random.within(0, silo.d_c() / 4);
-        sibling.strakes = wall(random, silo.d_c(), silo.hopper_height);
+        (sibling.hopper_height, sibling.run) = hopper(random, silo.d_c());
+        sibling.strakes = wall(random, silo.d_c(), sibling.hopper_height);
         let foot = sibling.foot();
         sibling.depths = depths(random, &sibling);
         sibling.depths.extend(silo.depths.iter().map(|depth| depth + random.below(3)));
@@ -268,7 +280,7 @@ pub fn damaged(random: &mut Random, silo: &Silo) -> Vec<u8> {
     bytes
 }
 
-/// Moves one or two numbers to a limit of document 01, or one past it.
+/// Moves one or two numbers to a limit of document 01, of its rules or of the discharge factors, or one past it.
 fn past_a_limit(random: &mut Random, mut silo: Silo) -> Silo {
     for _ in 0..=random.below(2) {
         let near = |random: &mut Random, limits: &[u64]| {
@@ -291,7 +303,7 @@ fn past_a_limit(random: &mut Random, mut silo: Silo) -> Silo {
             10 => silo.depths[depth] = near(random, &[silo.foot(), 0]),
             11 => silo.depths.insert(depth, silo.depths[depth]),
             12 => stretch(&mut silo, near(random, &[10 * d_c])),
-            _ => stretch(&mut silo, near(random, &[3 * d_c / 2])),
+            _ => stretch(&mut silo, near(random, &[d_c, 3 * d_c / 2])),
         }
     }
     silo

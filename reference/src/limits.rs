@@ -1,4 +1,5 @@
-//! Every limit of document 01: sheets with the value at it, below it and above it, each with the number due; 0 is acceptance.
+//! Every limit of document 01, and of C-11 of document 02: sheets with the value at it, below it and above it, each with the number due;
+//! 0 is acceptance.
 
 use crate::inputs::sample;
 use crate::sheet::{record, Silo};
@@ -68,8 +69,9 @@ const ECCENTRICITIES: &[(u64, u64)] =
     &[(0, 0), (1_249, 0), (1_250, 0), (1_251, 8), (1 << 30, 8), ((1 << 30) + 1, 8), (MAX, 8)];
 
 pub fn sheets() -> Vec<Due> {
-    let values = [numbers(), sides(), eccentricities(), slopes(), strakes(), depths(), shapes()];
-    let silos = values.concat().into_iter().chain(whole_loads());
+    let values = [numbers(), sides(), eccentricities(), slopes(), strakes(), depths(), heights()];
+    let accepted = factors().into_iter().chain(lowest()).map(|silo| (silo, 0));
+    let silos = values.concat().into_iter().chain(whole_loads()).chain(accepted);
     let sheets = silos.map(|(silo, due)| (silo.sheet(), due));
     sheets.chain(cut_or_extended()).chain(kinds()).chain(lengths()).collect()
 }
@@ -102,15 +104,14 @@ pub fn of_height(section: &[u64], height: u64, hopper: (u64, u64)) -> Silo {
 
 const FLAT: (u64, u64) = (0, 0);
 
-/// Rule 6: each side of each shape; where 24 strakes are too low for it, over a hopper.
+/// Rule 6: each side of each shape.
 fn sides() -> Vec<(Silo, u64)> {
     let mut silos = Vec::new();
     for side in [0, 499, 500, 501, 49_999, 50_000, 50_001, 65_536 + 5_000, 1 << 31, MAX] {
         let due = if (500..=50_000).contains(&side) { 0 } else { 6 };
         for section in [vec![side], vec![side, 20_000], vec![20_000, side], vec![side, side]] {
             let d_c = section.iter().fold(50_000, |least, side| *side.min(&least));
-            let hopper = if d_c > 48_000 { (25_000, 20_000) } else { FLAT };
-            silos.push((of_height(&section, 2 * d_c, hopper), due));
+            silos.push((of_height(&section, 2 * d_c, FLAT), due));
         }
     }
     silos
@@ -189,32 +190,68 @@ fn depths() -> Vec<(Silo, u64)> {
     silos
 }
 
-/// Rules 12 and 13, for odd and even d_c, the shorter side first and second, with and without a hopper.
-fn shapes() -> Vec<(Silo, u64)> {
-    let mut silos = Vec::new();
-    for d_c in [500u64, 501, 1_999, 2_000, 5_000, 5_001, 7_199] {
-        for section in [vec![d_c], vec![d_c, 9_000], vec![9_000, d_c]] {
-            for hopper in [FLAT, (200, 50)] {
-                let squat = (3 * d_c).div_ceil(2);
-                let heights = [
-                    (squat - 1, 13),
-                    (squat, 0),
-                    (squat + 1, 0),
-                    (10 * d_c - 1, 0),
-                    (10 * d_c, 12),
-                    (10 * d_c + 1, 12),
-                ];
-                let silo = |(height, due)| (of_height(&section, height, hopper), due);
-                silos.extend(heights.map(silo));
-            }
+/// Odd and even d_c that a wall can be ten times as high as.
+const WIDTHS: [u64; 7] = [500, 501, 1_999, 2_000, 5_000, 5_001, 7_199];
+
+/// A circle, and rectangles with the shorter side first and second.
+fn sections(d_c: u64) -> [Vec<u64>; 3] {
+    let longer = d_c.max(9_000);
+    [vec![d_c], vec![d_c, longer], vec![longer, d_c]]
+}
+
+/// Rule 12, for odd and even d_c, the shorter side first and second, with and without a hopper; and the widest that a wall of 24 strakes
+/// makes too high, over a hopper.
+fn heights() -> Vec<(Silo, u64)> {
+    let about = |section: &[u64], d_c: u64, hopper: (u64, u64)| {
+        let heights = [(10 * d_c - 1, 0), (10 * d_c, 12), (10 * d_c + 1, 12)];
+        heights.map(|(height, due)| (of_height(section, height, hopper), due))
+    };
+    let mut silos = about(&[9_699], 9_699, (24_995, 1_000)).to_vec();
+    for d_c in WIDTHS {
+        for section in sections(d_c) {
+            silos.extend([FLAT, (200, 50)].iter().flat_map(|hopper| about(&section, d_c, *hopper)));
         }
     }
-    // The widest that a wall of 24 strakes makes slender, and the widest that it can make too high, each over a hopper.
-    for (height, due) in [(74_999, 13), (75_000, 0), (75_001, 0)] {
-        silos.push((of_height(&[50_000], height, (3_001, 1_000)), due));
+    silos
+}
+
+/// Limits of the discharge factors, which no rule judges: h = d_c and 2h = 3·d_c, or next to them, for odd and even d_c up to the widest.
+fn factors() -> Vec<Silo> {
+    let mut silos = Vec::new();
+    for d_c in WIDTHS.into_iter().chain([47_999, 48_000, 48_001, 49_999, 50_000]) {
+        let slender = (3 * d_c).div_ceil(2);
+        for height in [d_c - 1, d_c, d_c + 1, slender - 1, slender, slender + 1] {
+            silos.extend(bins(d_c, height));
+        }
     }
-    for (height, due) in [(96_989, 0), (96_990, 12), (96_991, 12)] {
-        silos.push((of_height(&[9_699], height, (24_995, 1_000)), due));
+    silos
+}
+
+/// Bins of that width and height over a flat floor, a low hopper, and one that makes a wall of d_c slender; C0 blank, at its ends and as in
+/// the sample; e at its limit.
+fn bins(d_c: u64, height: u64) -> Vec<Silo> {
+    let mut silos = Vec::new();
+    for section in sections(d_c) {
+        for hopper in [FLAT, (200, 50), (d_c / 2, d_c / 4)] {
+            let silo = Silo { e_o: d_c / 4, ..of_height(&section, height, hopper) };
+            silos.extend([0, 100, 140, 200].map(|factor| Silo { factor, ..silo.clone() }));
+        }
+    }
+    // 24 strakes alone do not make the widest slender.
+    silos.retain(|silo| silo.height() == height);
+    silos
+}
+
+/// The lowest wall there is, of one strake, under the widest section and the narrowest, where hoppers alone make it slender.
+fn lowest() -> Vec<Silo> {
+    let lowest = |section: &[u64], hopper: (u64, u64)| of_height(section, 200 + hopper.0, hopper);
+    let mut silos = Vec::new();
+    for section in [vec![50_000], vec![50_000, 50_000]] {
+        silos.extend([FLAT, (25_000, 24_999)].map(|hopper| lowest(&section, hopper)));
+    }
+    for section in [vec![500], vec![500, 50_000], vec![50_000, 500]] {
+        let hoppers = [0, 299, 300, 301, 549, 550, 551].map(|height| (height, height.min(200)));
+        silos.extend(hoppers.map(|hopper| lowest(&section, hopper)));
     }
     silos
 }
@@ -283,25 +320,16 @@ fn kinds() -> Vec<Due> {
     sheets
 }
 
-/// Rule 4: payloads of each kind, of every length round those allowed. Strakes are of 2,000 mm, so that under four of them are squat.
+/// Rule 4: payloads of each kind, of every length round those allowed.
 fn lengths() -> Vec<Due> {
-    let strakes = |length: usize| match length {
-        2..=48 if length.is_multiple_of(2) => 13 * u64::from(length < 8),
-        _ => 4,
-    };
-    let depths = |length: usize| match length {
-        4..=800 if length.is_multiple_of(4) => 0,
-        _ => 4,
-    };
-    let exactly = |due: usize| move |length: usize| if length == due { 0 } else { 4 };
+    // Bytes of a number or a payload, and how many of them at most.
+    let allowed = [(4, 1), (10, 1), (8, 1), (8, 1), (2, 24), (4, 200)];
     let mut sheets = Vec::new();
     for length in (0..60).chain(790..810) {
-        sheets.push(resized(0, length, exactly(4)(length)));
-        sheets.push(resized(1, length, exactly(10)(length)));
-        sheets.push(resized(2, length, exactly(8)(length)));
-        sheets.push(resized(3, length, exactly(8)(length)));
-        sheets.push(resized(4, length, strakes(length)));
-        sheets.push(resized(5, length, depths(length)));
+        for (place, (width, most)) in allowed.into_iter().enumerate() {
+            let fits = length % width == 0 && (1..=most).contains(&(length / width));
+            sheets.push(resized(place, length, if fits { 0 } else { 4 }));
+        }
     }
     sheets
 }

@@ -1,4 +1,4 @@
-//! A sheet and the order in which it is refused, as document 01 writes them down.
+//! A sheet and the order in which it is refused, as document 01 writes them down, without 13, which C-11 of document 02 retires.
 
 /// What a sheet says; lengths in mm, weight in N/m³, ratio, friction and factor in hundredths.
 #[derive(Clone, Debug, PartialEq, Eq)]
@@ -136,7 +136,7 @@ pub fn records(sheet: &[u8]) -> Result<Silo, u64> {
     })
 }
 
-/// Refusals 6 to 13, or 0.
+/// Refusals 6 to 12, or 0.
 fn judge(silo: &Silo) -> u64 {
     let d_c = silo.d_c();
     let (hopper, run) = (silo.hopper_height, silo.run);
@@ -159,7 +159,6 @@ fn judge(silo: &Silo) -> u64 {
                 || silo.depths.windows(2).any(|pair| pair[1] <= pair[0]),
         ),
         (12, silo.height() >= 10 * d_c),
-        (13, 2 * silo.height() < 3 * d_c),
     ];
     wrong.iter().find(|(_, holds)| *holds).map_or(0, |(refusal, _)| *refusal)
 }

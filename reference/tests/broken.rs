@@ -1,12 +1,12 @@
 //! Broken stand-ins for the library: the comparison has to find each of them in what the other tests compare.
 //!
 //! Each calls the library and changes what it leaves or answers: the worthless versions of document 01, its traps, single numbers and
-//! limits one off, rules in another order, and memory that is written to where it must not be.
+//! limits one off, other discharge factors, rules in another order, and memory that is written to where it must not be.
 
 use reference::calls::{Library, Outcome, UNTOUCHED};
 use reference::compare::Comparison;
 use reference::exponential::exponential;
-use reference::formulas::{self, HORIZONTAL};
+use reference::formulas::{self, c0, slenderness, Discharge, HORIZONTAL};
 use reference::fraction::{fraction, whole, Fraction, Real};
 use reference::inputs::Random;
 use reference::linked::Linked;
@@ -83,7 +83,7 @@ fn chosen(first: &[u32], second: &[u32], second_governs: bool) -> u32 {
 }
 
 /// The library's answer, and its list changed where it succeeds.
-fn filled(sheet: &[u8], list: &mut [u32], change: fn(&Silo, &mut [u32])) -> u32 {
+fn filled(sheet: &[u8], list: &mut [u32], change: impl Fn(&Silo, &mut [u32])) -> u32 {
     let answer = loads(sheet, list);
     if let (0, Ok(silo)) = (answer, parse(sheet)) {
         change(&silo, list);
@@ -97,25 +97,77 @@ fn each_row(silo: &Silo, list: &mut [u32], change: impl Fn(&mut [u32])) {
     rows.filter(|row| row[0] > 0).for_each(change);
 }
 
+/// A number times a factor, rounded up.
+fn magnified(number: u32, factor: &Fraction) -> u32 {
+    whole(number.into()).times(factor).up() as u32
+}
+
+/// p_he and p_p made from a row's p_hf.
+fn put_discharge(silo: &Silo, row: &mut [u32], c_h: &Fraction) {
+    row[5] = magnified(row[1], c_h);
+    row[7] = magnified(row[5], &formulas::patch(silo));
+}
+
 /// A p_hf, with p_he and p_p made from it.
-fn put_horizontal(silo: &Silo, row: &mut [u32], p_hf: u64) {
-    let p_he = whole(p_hf).times(&formulas::discharge(silo)).up();
-    row[1] = p_hf as u32;
-    row[5] = p_he as u32;
-    row[7] = whole(p_he).times(&formulas::patch(silo)).up() as u32;
+fn put_horizontal(silo: &Silo, row: &mut [u32], p_hf: u32) {
+    row[1] = p_hf;
+    put_discharge(silo, row, &Discharge::of(silo).c_h);
+}
+
+/// Strakes made from p_hf at their lower edges.
+fn put_strakes(silo: &Silo, list: &mut [u32], c_h: &Fraction, p_hf: Vec<u32>) {
+    let strakes = list.len() - silo.strakes.len();
+    for (load, p_hf) in list[strakes..].iter_mut().zip(p_hf) {
+        *load = magnified(p_hf, c_h);
+    }
 }
 
 /// p_hf at every depth as P times a bracket of q, rounded up, with all that is made from it.
 fn put_bracket(silo: &Silo, list: &mut [u32], bracket: fn(&Fraction) -> Fraction) {
     let p_hf = |depth: u64| {
         let q = formulas::q(silo, HORIZONTAL, depth);
-        bracket(&q).times(&formulas::before_bracket(silo)[0]).up()
+        bracket(&q).times(&formulas::before_bracket(silo)[0]).up() as u32
     };
     each_row(silo, list, |row| put_horizontal(silo, row, p_hf(row[0].into())));
-    let strakes = list.len() - silo.strakes.len();
-    for (load, edge) in list[strakes..].iter_mut().zip(silo.edges()) {
-        *load = whole(p_hf(edge)).times(&formulas::discharge(silo)).up() as u32;
-    }
+    let at_edges = silo.edges().into_iter().map(p_hf).collect();
+    put_strakes(silo, list, &Discharge::of(silo).c_h, at_edges);
+}
+
+/// The library's p_hf at the lower edges, which a sheet of their depths lists.
+fn edge_pressures(silo: &Silo) -> Vec<u32> {
+    let at_edges = Silo { depths: silo.edges(), ..silo.clone() };
+    let mut list = vec![0; at_edges.answers_length()];
+    loads(&at_edges.sheet(), &mut list);
+    list.chunks(8).take(at_edges.depths.len()).map(|row| row[1]).collect()
+}
+
+fn is_squat(silo: &Silo) -> bool {
+    2 * silo.height() < 3 * silo.d_c()
+}
+
+/// The library's answer, with all that discharge makes of its filling pressures made by other factors.
+fn discharged(sheet: &[u8], list: &mut [u32], other: impl Fn(&Silo) -> Discharge) -> u32 {
+    filled(sheet, list, |silo, list| {
+        let Discharge { c_h, c_w } = other(silo);
+        each_row(silo, list, |row| {
+            put_discharge(silo, row, &c_h);
+            row[6] = magnified(row[2], &c_w);
+        });
+        put_strakes(silo, list, &c_h, edge_pressures(silo));
+    })
+}
+
+/// The same for squat bins alone.
+fn discharged_squat(sheet: &[u8], list: &mut [u32], other: fn(&Silo) -> Discharge) -> u32 {
+    let by_kind = |silo: &Silo| if is_squat(silo) { other(silo) } else { Discharge::of(silo) };
+    discharged(sheet, list, by_kind)
+}
+
+/// Both factors as whole hundredths, by some rounding of their hundredths.
+fn in_hundredths(silo: &Silo, rounding: fn(Fraction) -> u64) -> Discharge {
+    let Discharge { c_h, c_w } = Discharge::of(silo);
+    let rounded = |factor: Fraction| fraction(rounding(factor.times(&whole(100))), 100);
+    Discharge { c_h: rounded(c_h), c_w: rounded(c_w) }
 }
 
 /// 1 - e^-q, from above.
@@ -164,7 +216,7 @@ const LISTS: &[(&str, Loads)] = &[
             each_row(silo, list, |row| {
                 let q = formulas::q(silo, HORIZONTAL, row[0].into());
                 row[2] = bracket(&q).times(weight).up() as u32;
-                row[6] = fraction(11 * u64::from(row[2]), 10).up() as u32;
+                row[6] = magnified(row[2], &Discharge::of(silo).c_w);
             });
         })
     }),
@@ -203,14 +255,14 @@ const LISTS: &[(&str, Loads)] = &[
     ("p_he rounded down", |sheet, list| {
         filled(sheet, list, |silo, list| {
             each_row(silo, list, |row| {
-                row[5] = down(&whole(row[1].into()).times(&formulas::discharge(silo))) as u32;
+                row[5] = down(&whole(row[1].into()).times(&Discharge::of(silo).c_h)) as u32;
             });
         })
     }),
     ("a patch load from e_i alone", |sheet, list| {
         filled(sheet, list, |silo, list| {
             let inner = Silo { e_o: 0, ..silo.clone() };
-            each_row(silo, list, |row| put_horizontal(&inner, row, row[1].into()));
+            each_row(silo, list, |row| put_horizontal(&inner, row, row[1]));
         })
     }),
     ("strakes at their upper edges", |sheet, list| {
@@ -224,14 +276,92 @@ const LISTS: &[(&str, Loads)] = &[
         filled(sheet, list, |silo, list| {
             each_row(silo, list, |row| {
                 let raised = row[0] % 2 == 1 && !silo.edges().contains(&row[0].into());
-                put_horizontal(silo, row, u64::from(row[1]) + u64::from(raised));
+                put_horizontal(silo, row, row[1] + u32::from(raised));
             });
         })
     }),
     ("p_hf one more where two depths are listed", |sheet, list| {
         filled(sheet, list, |silo, list| {
             if silo.depths.len() == 2 {
-                each_row(silo, list, |row| put_horizontal(silo, row, u64::from(row[1]) + 1));
+                each_row(silo, list, |row| put_horizontal(silo, row, row[1] + 1));
+            }
+        })
+    }),
+];
+
+/// Wrong discharge factors. Limits on the other side are not among them, h ≥ d_c for h > d_c and 2h > 3·d_c for 2h ≥ 3·d_c: the factors of
+/// both sides are equal there, and no number changes.
+const FACTORS: &[(&str, Loads)] = &[
+    ("slender factors for every bin", |sheet, list| {
+        discharged(sheet, list, |silo| Discharge::slender(&c0(silo)))
+    }),
+    ("squat factors for every bin", |sheet, list| {
+        discharged(sheet, list, |silo| Discharge::squat(&c0(silo), &slenderness(silo)))
+    }),
+    ("1 for every squat bin", |sheet, list| {
+        discharged_squat(sheet, list, |_| Discharge { c_h: whole(1), c_w: whole(1) })
+    }),
+    ("h and d_c exchanged", |sheet, list| {
+        discharged(sheet, list, |silo| Discharge::at(&c0(silo), &whole(1).over(&slenderness(silo))))
+    }),
+    ("h without H", |sheet, list| {
+        discharged(sheet, list, |silo| Discharge::at(&c0(silo), &fraction(silo.foot(), silo.d_c())))
+    }),
+    ("side a for d_c", |sheet, list| {
+        discharged(sheet, list, |silo| Discharge::at(&c0(silo), &fraction(silo.height(), silo.a())))
+    }),
+    ("slender from 1.5·d_c without its half millimetre", |sheet, list| {
+        discharged_squat(sheet, list, |silo| match silo.height() {
+            h if h >= 3 * silo.d_c() / 2 => Discharge::slender(&c0(silo)),
+            _ => Discharge::of(silo),
+        })
+    }),
+    ("h/d_c as a whole number", |sheet, list| {
+        discharged(sheet, list, |silo| Discharge::at(&c0(silo), &whole(down(&slenderness(silo)))))
+    }),
+    ("factors rounded up to hundredths", |sheet, list| {
+        discharged(sheet, list, |silo| in_hundredths(silo, |hundredths| hundredths.up()))
+    }),
+    ("factors rounded to the nearest hundredth", |sheet, list| {
+        discharged(sheet, list, |silo| {
+            in_hundredths(silo, |hundredths| down(&hundredths.plus(&fraction(1, 2))))
+        })
+    }),
+    ("C_h without its 2", |sheet, list| {
+        discharged_squat(sheet, list, |silo| {
+            let Discharge { c_h, c_w } = Discharge::of(silo);
+            Discharge { c_h: c_h.plus(&whole(1)).over(&whole(2)), c_w }
+        })
+    }),
+    ("C_w of 1.1 for squat bins", |sheet, list| {
+        discharged(sheet, list, |silo| Discharge { c_w: fraction(11, 10), ..Discharge::of(silo) })
+    }),
+    ("a blank C0 as 1 in squat bins", |sheet, list| {
+        discharged_squat(sheet, list, |silo| match silo.factor {
+            0 => Discharge::squat(&whole(1), &slenderness(silo)),
+            _ => Discharge::of(silo),
+        })
+    }),
+    ("strakes of squat bins by C0", |sheet, list| {
+        filled(sheet, list, |silo, list| {
+            put_strakes(silo, list, &c0(silo), edge_pressures(silo));
+        })
+    }),
+    ("the patch reduced by 5.33 and 5.36", |sheet, list| {
+        filled(sheet, list, |silo, list| {
+            if is_squat(silo) {
+                let share = slenderness(silo).minus(&whole(1)).times(&whole(2));
+                let patch = formulas::patch(silo).times(&share);
+                each_row(silo, list, |row| row[7] = magnified(row[5], &patch));
+            }
+        })
+    }),
+    ("p_hf one more in squat bins", |sheet, list| {
+        filled(sheet, list, |silo, list| {
+            if is_squat(silo) {
+                each_row(silo, list, |row| put_horizontal(silo, row, row[1] + 1));
+                let at_edges = edge_pressures(silo).iter().map(|p_hf| p_hf + 1).collect();
+                put_strakes(silo, list, &Discharge::of(silo).c_h, at_edges);
             }
         })
     }),
@@ -259,8 +389,13 @@ const REFUSALS: &[(&str, Loads)] = &[
     ("judges the shape before the depths", |sheet, list| {
         taken_for(sheet, list, |silo| {
             let shape = Silo { depths: vec![0], ..silo };
-            matches!(parse(&shape.sheet()), Err(12 | 13)).then_some(shape)
+            (parse(&shape.sheet()) == Err(12)).then_some(shape)
         })
+    }),
+    ("13 for squat bins", |sheet, list| refusing(sheet, list, 13, is_squat)),
+    ("13 before 14 for squat bins", |sheet, list| match (loads(sheet, list), parse(sheet)) {
+        (14, Ok(silo)) if is_squat(&silo) => 13,
+        (answer, _) => answer,
     }),
     ("judges the list's length first", |sheet, list| {
         let due = records(sheet).map(|silo| silo.answers_length());
@@ -277,6 +412,10 @@ const LENGTHS: &[(&str, Length)] = &[
     ("a length without its mark", |sheet| answers_length(sheet) % (1 << 32)),
     ("one number too many", |sheet| answers_length(sheet) + u64::from(parse(sheet).is_ok())),
     ("a mark on refusals too", |sheet| (1 << 32) | answers_length(sheet)),
+    ("13 for squat bins", |sheet| match parse(sheet) {
+        Ok(silo) if is_squat(&silo) => 13,
+        _ => answers_length(sheet),
+    }),
 ];
 
 /// Wrong answers of the governing call.
@@ -363,9 +502,23 @@ fn is_found(name: &str, outcome: Outcome) {
 
 #[test]
 fn broken_load_calls_are_found() {
-    for (name, loads) in LISTS.iter().chain(REFUSALS) {
-        is_found(name, compared(&Broken { loads: *loads, ..WHOLE }));
+    for (name, loads) in [LISTS, FACTORS, REFUSALS].concat() {
+        is_found(name, compared(&Broken { loads, ..WHOLE }));
     }
+}
+
+/// 2h > 3·d_c for 2h ≥ 3·d_c: the stand-ins with other factors change nothing else, or this would be found.
+#[test]
+fn equal_factors_are_no_difference() {
+    let loads: Loads = |sheet, list| {
+        discharged(sheet, list, |silo| match Discharge::of(silo) {
+            _ if 2 * silo.height() == 3 * silo.d_c() => {
+                Discharge::squat(&c0(silo), &slenderness(silo))
+            }
+            factors => factors,
+        })
+    };
+    compared(&Broken { loads, ..WHOLE }).unwrap();
 }
 
 #[test]

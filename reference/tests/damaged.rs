@@ -1,6 +1,6 @@
 //! Damaged sheets: cut, extended, bytes and fields overwritten, noise, and numbers at or next to a limit.
 
-use reference::compare::Comparison;
+use reference::compare::{Comparison, REFUSALS};
 use reference::inputs::Random;
 use reference::linked::Linked;
 use reference::runs;
@@ -12,5 +12,5 @@ fn damaged_sheets() {
     for _ in 0..700 {
         runs::damaged(&mut comparison, &mut random, 40).unwrap();
     }
-    comparison.report(1..=14);
+    comparison.report(REFUSALS);
 }

@@ -1,4 +1,5 @@
-//! Pairs of sheets with one section and product: filling pressures that section, product and depth alone decide, and never falling.
+//! Pairs of sheets with one section and product: filling pressures that section, product and depth alone decide, and never falling,
+//! whether the bins are slender or squat.
 
 use reference::compare::Comparison;
 use reference::inputs::Random;
@@ -9,6 +10,7 @@ use reference::runs;
 fn pressures_of_one_section_and_product() {
     let mut comparison = Comparison::with(&Linked);
     runs::pairs(&mut comparison, &mut Random::new(1_991), 2_000).unwrap();
-    println!("{} pairs compared", comparison.tally.pairs);
-    assert!(comparison.tally.pairs == 2_000);
+    let (pairs, unlike) = (comparison.tally.pairs, comparison.tally.unlike_pairs);
+    println!("{pairs} pairs compared, {unlike} of them with unlike discharge factors");
+    assert!(pairs == 2_000 && (1..pairs).contains(&unlike));
 }

@@ -2,6 +2,7 @@
 -- Assumes nothing.
 use Prim.Native.Nat.{ℕ}
 use mathlib.Core.Path.{_≡_, refl, sym, _∙_, subst}
+use mathlib.Core.Bool.{false≢true}
 use mathlib.Core.List.{List, [], _∷_}
 use native.Mathlib.Omega.{arith}
 use borrow.Author.Tests.{eq-eqb, ne-eqb}
@@ -9,8 +10,9 @@ use lib.Dec.{eqb}
 use lib.ListN.{length}
 use Rattle.janssen.specs.program.Pressure.{computed}
 use Rattle.records.specs.Rules.{_unless_, first-unmet}
-use Rattle.records.proofs.Chain.{stopped, skipped}
-use Rattle.sheet.specs.Refusal.{sheet-rules, refusal-of}
+use Rattle.records.specs.Format.{record-rules, records-rules, layout-rules}
+use Rattle.records.proofs.Chain.{stopped, skipped, among}
+use Rattle.sheet.specs.Refusal.{value-rules, sheet-rules, refusal-of}
 use Rattle.sheet.proofs.Acceptance.{sheet-numbered}
 use Rattle.answers.specs.Length.{length-due}
 use Rattle.answers.specs.Answers.{Filled, loads-rules}
@@ -18,6 +20,11 @@ use Rattle.answers.specs.Promise.{Promise}
 use Rattle.answers.specs.program.Fill.{answers}
 use Rattle.answers.proofs.Places.{answers-filled}
 use Rattle.answers.proofs.Demand.{claim}
+
+-- 13 is no rule of the load call either
+pub loads-never-13 : (s : List ℕ) (n : ℕ) → first-unmet (loads-rules s n) ≡ 13 → ⊥
+unfolding loads-rules sheet-rules layout-rules records-rules record-rules value-rules
+loads-never-13 s n e = false≢true (among (loads-rules s n) 13 (omega arith) e)
 
 module _ (s lent : List ℕ) where
   -- any refusal leaves the list as it was

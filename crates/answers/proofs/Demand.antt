@@ -4,7 +4,7 @@
 -- two lists is the order of the named pressures, which have nothing in them but section, product and depth.
 -- Assumes nothing.
 use Prim.Native.Nat.{ℕ, zero, suc, _+_, _-_, _≤_, _<_}
-use mathlib.Core.Path.{_≡_, sym, subst}
+use mathlib.Core.Path.{_≡_, refl, sym, subst}
 use mathlib.Core.List.{List}
 use mathlib.Core.Logic.{⊎-elim}
 use native.Mathlib.Nat.{add-zero, add-suc, le-antisymm}
@@ -13,15 +13,15 @@ use lib.ListN.{length}
 use Rattle.janssen.specs.program.Range.{InRange}
 use Rattle.janssen.specs.program.Pressure.{computed}
 use Rattle.records.specs.Format.{place, payload-length}
-use Rattle.description.specs.Silo.{section-of, product-of, bottom-of, depth-count, strakes-of, edge-of, V-of}
+use Rattle.description.specs.Silo.{section-of, product-of, bottom-of, depth-count, strakes-of, edge-of, V-of, h-of}
 use Rattle.description.proofs.Sums.{sum-under}
 use Rattle.sheet.specs.Refusal.{refusal-of}
 use Rattle.sheet.specs.Accepted.{Accepted}
 use Rattle.sheet.proofs.Acceptance.{accepted}
-use Rattle.sheet.proofs.Described.{edge-most, V-most, V-slender, in-range, factor-in}
+use Rattle.sheet.proofs.Described.{edge-most, V-most, V-below-ten, in-range, factor-in}
 use Rattle.loads.specs.declared.Silo.{Silo}
 use Rattle.loads.specs.Load.{Load}
-use Rattle.loads.specs.Load.{OfFilling, load-depth, number}
+use Rattle.loads.specs.Load.{OfFilling, load-depth, full-height, number}
 use Rattle.loads.specs.Load.Load.{p-he}
 use Rattle.loads.specs.Holds.{Holds}
 use Rattle.loads.specs.program.Basis.{Reached, Fits}
@@ -31,12 +31,17 @@ use Rattle.answers.specs.Answers.{silo-of, depth, bottom-in, Filled}
 use Rattle.answers.specs.Claim.{SameSectionAndProduct, Claim}
 use Rattle.answers.proofs.SameRecords.{same-section, same-product}
 
+-- the magnifiers and rule 12 go by one h
+pub same-height : (s : List ℕ) → full-height (silo-of s) ≡ h-of s
+unfolding load-depth h-of
+same-height s = refl
+
 module _ (s : List ℕ) (a : Accepted s) where
   -- every depth at most at the wall's foot
   pub reached : (x : ℕ) → x ≤ V-of s → Reached (silo-of s) x
   reached x h =
       record {
-        slender = omega (arith, V-slender s a, load-depth-most (silo-of s) x);
+        below-ten = omega (arith, V-below-ten s a, load-depth-most (silo-of s) x);
         wall = omega (arith, V-most s a, load-depth-most (silo-of s) x);
       }
 
@@ -56,7 +61,7 @@ module _ (s : List ℕ) (a : Accepted s) where
   silo-fits =
       record {
         range = in-range s a;
-        factor-most = factor-in s a .most;
+        factor-in = factor-in s a;
         eccentricity-most = omega (arith, a .values .inlet-most, a .values .outlet-most);
         height-most = bottom-fits .0;
         run-most = bottom-fits .1;

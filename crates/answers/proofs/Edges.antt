@@ -18,7 +18,7 @@ use Rattle.loads.proofs.LoadLaws.{load-depth-rises}
 pub above-foot : (c : Silo) {depth foot : ℕ} → Reached c foot → depth ≤ foot → Reached c depth
 above-foot c {depth} {foot} d h =
     record {
-      slender = omega (arith, d .slender, load-depth-rises c depth foot h);
+      below-ten = omega (arith, d .below-ten, load-depth-rises c depth foot h);
       wall = omega (arith, d .wall, load-depth-rises c depth foot h);
     }
 

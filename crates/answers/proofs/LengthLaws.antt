@@ -1,10 +1,13 @@
 -- The answers of the length call: a refused sheet's refusal, an accepted sheet's length.
-use Prim.Native.Nat.{ℕ}
+use Prim.Native.Nat.{ℕ, _≤_}
 use mathlib.Core.List.{List}
 use mathlib.Core.Path.{_≡_}
+use native.Mathlib.Decide.{decLe}
+use native.Mathlib.Omega.{arith}
 use borrow.Author.Tests.{eq-eqb, ne-eqb}
 use Rattle.sheet.specs.Refusal.{refusal-of}
-use Rattle.answers.specs.Length.{length-due, answers-length}
+use Rattle.sheet.proofs.Acceptance.{never-13}
+use Rattle.answers.specs.Length.{length-due, answers-length, answers-length-number}
 use Rattle.answers.specs.declared.length.AnswersLength.the-variants.{Due, Refused}
 
 pub refused-length : (s : List ℕ) → (refusal-of s ≡ 0 → ⊥) → answers-length s ≡ Refused (refusal-of s)
@@ -14,3 +17,12 @@ refused-length s n = simp (ne-eqb (refusal-of s) 0 n)
 pub accepted-length : (s : List ℕ) → refusal-of s ≡ 0 → answers-length s ≡ Due (length-due s)
 unfolding answers-length
 accepted-length s e = simp (eq-eqb (refusal-of s) 0 e)
+
+-- 13 is retired
+pub length-never-13 : (s : List ℕ) → answers-length-number (answers-length s) ≡ 13 → ⊥
+unfolding answers-length-number
+length-never-13 s e = at (decLe (refusal-of s) 0)
+  where
+    at : Dec (refusal-of s ≤ 0) → ⊥
+    at (yes z) = let due = rw (accepted-length s (omega arith)) at e in omega arith
+    at (no z) = never-13 s (rw (refused-length s (λ o. omega arith)) at e)

@@ -5,19 +5,20 @@ use native.Mathlib.Omega.{arith}
 use lib.Dec.{ltb, leb, lit<, ltb→lt, leb→le}
 use lib.ListN.{take, drop, replicate}
 use mathlib.Core.List.{List, [], _∷_}
-use mathlib.Core.Path.{_≡_, refl, ap, _∙_}
+use mathlib.Core.Path.{_≡_, refl, ap, ap₂, _∙_}
 use Rattle.fraction.specs.Fraction.{up}
 use Rattle.exponential.specs.program.Table.{table}
 use Rattle.exponential.specs.program.Lower.{lower, between, denominator, entry}
 use Rattle.janssen.specs.declared.Section.the-variants.{Circle}
 use Rattle.janssen.specs.Filling.Kind.{horizontal, vertical, wall-friction}
 use Rattle.janssen.specs.program.Range.{InRange, InDepth}
+use Rattle.janssen.specs.Numbers.{FillingNumbers}
 use Rattle.janssen.specs.Section.{side-a, side-b, d-c, R}
 use Rattle.janssen.specs.Filling.{Ks, μ, z0, q, γR, P, D, N}
 use Rattle.janssen.specs.program.Pressure.{step, limit, decay, pressure, filling, z0-scaled, loaded-depth, load, wall-load, computed}
-use Rattle.discharge.specs.Discharge.{magnified-load, patch-load}
+use Rattle.discharge.specs.Discharge.{magnifier, horizontal-magnifier, friction-magnifier, magnified-load, patch-load}
 use Rattle.loads.specs.Load.{Load}
-use Rattle.loads.specs.Load.{load-depth, C-h, C-w, number}
+use Rattle.loads.specs.Load.{load-depth, full-height, C-h, C-w, number}
 use Rattle.loads.specs.Load.Load.{listed-depth, p-hf, p-wf, p-vf, P-w, p-he, p-we, p-p}
 use Rattle.records.specs.Format.{u16, u32, numbers, place, kind, payload, payload-length, allowed, record-rules, records-rules, layout-rules}
 use Rattle.records.specs.Rules.{_unless_, first-unmet}
@@ -25,18 +26,37 @@ use Rattle.records.proofs.Chain.{apart, skipped}
 use Rattle.description.specs.Silo.{section-of, product-sent, product-of, factor-read, eccentricities-of, bottom-of, strake-count, strakes-of, depth-count, depths-of, sum, V-of, h-of}
 use Rattle.sheet.specs.Refusal.{sides-met, strakes-met, depths-met, value-rules, sheet-rules, refusal-of}
 use Rattle.sheet.proofs.Layouts.{layout-numbered}
+use Rattle.answers.specs.Answers.{silo-of}
+use Rattle.answers.proofs.Demand.{same-height}
 use Rattle.cases.specs.Cases.{case-sheet, case-product, case-silo, middle-number, OfHeight, Marked}
 use Rattle.cases.proofs.Pairs.{filling-pair, wall-load-pair}
 use Rattle.cases.proofs.Factor.{acts-as-135}
 
 -- the rules before 12 are passed over, and the shape is judged by h alone
-by-shape : (h : ℕ) (s : List ℕ) → OfHeight h s → refusal-of s ≡ first-unmet (12 unless ltb h 50000 ∷ 13 unless leb 15000 (2 * h) ∷ [])
+by-shape : (h : ℕ) (s : List ℕ) → OfHeight h s → refusal-of s ≡ first-unmet (12 unless ltb h 50000 ∷ [])
 unfolding refusal-of sheet-rules value-rules
 by-shape h s u =
     let shape = drop 6 (value-rules s) in
     let p = apart (take 6 (value-rules s)) (layout-rules s) (layout-numbered s) (u .before) in
     let q = skipped shape (take 6 (value-rules s)) refl (p .1) in
     skipped (value-rules s) (layout-rules s) (layout-numbered s) (p .0) ∙ q ∙ simp (u .width, u .height)
+
+-- h 7,499 over 5,000: C_h is 1 + 0.8·2,499/5,000 at C0 140, C_w 1 + 0.2·2,499/5,000
+module _ (g : FillingNumbers) (s : List ℕ) (u : OfHeight 7499 s) where
+  height : full-height (silo-of s) ≡ 7499
+  height = same-height s ∙ u .height
+
+  squat-discharge : product-of s .factor ≡ 140 → (z : ℕ) → number g (silo-of s) p-hf z ≡ 17597 → number g (silo-of s) p-he z ≡ 24633
+  unfolding magnified-load magnifier up
+  squat-discharge f z e =
+      ap₂ (λ (h p : ℕ). magnified-load (horizontal-magnifier (product-of s .factor) h (d-c (section-of s))) p) height e
+      ∙ ap₂ (λ (C d : ℕ). magnified-load (horizontal-magnifier C 7499 d) 17597) f (u .width)
+
+  squat-friction-discharge : (z : ℕ) → number g (silo-of s) p-wf z ≡ 7345 → number g (silo-of s) p-we z ≡ 8080
+  unfolding magnified-load magnifier up
+  squat-friction-discharge z e =
+      ap₂ (λ (h p : ℕ). magnified-load (friction-magnifier h (d-c (section-of s))) p) height e
+      ∙ ap (λ (d : ℕ). magnified-load (friction-magnifier 7499 d) 7345) (u .width)
 
 in-range : InRange (Circle 5000) case-product
 unfolding side-a side-b
@@ -50,10 +70,10 @@ in-range = record {
 
 in-depth : InDepth (Circle 5000) 5000
 unfolding d-c side-a side-b
-in-depth = record { slender = omega arith; wall = omega arith }
+in-depth = record { below-ten = omega arith; wall = omega arith }
 
 surface : (l : Load) → number computed case-silo l 0 ≡ 0
-unfolding load-depth D N magnified-load patch-load filling pressure wall-load load loaded-depth z0-scaled decay limit step P q z0 γR R Ks μ up lower between denominator entry table side-a side-b d-c
+unfolding load-depth D N magnifier magnified-load patch-load filling pressure wall-load load loaded-depth z0-scaled decay limit step P q z0 γR R Ks μ up lower between denominator entry table side-a side-b d-c
 surface listed-depth = refl
 surface p-hf = refl
 surface p-wf = refl
@@ -64,7 +84,7 @@ surface p-we = refl
 surface p-p = refl
 
 middle : (l : Load) → number computed case-silo l 5000 ≡ middle-number l
-unfolding load-depth D N magnified-load patch-load filling pressure wall-load load loaded-depth z0-scaled decay limit step P q z0 γR R Ks μ up lower between denominator entry table side-a side-b d-c
+unfolding load-depth D N magnifier magnified-load patch-load filling pressure wall-load load loaded-depth z0-scaled decay limit step P q z0 γR R Ks μ up lower between denominator entry table side-a side-b d-c
 middle listed-depth = refl
 middle p-hf = refl
 middle p-wf = refl
@@ -75,7 +95,7 @@ middle p-we = refl
 middle p-p = refl
 
 pub marked : Marked computed
-unfolding load-depth D N magnified-load patch-load filling pressure wall-load load loaded-depth z0-scaled decay limit step P q z0 γR R Ks μ up lower between denominator entry table case-sheet refusal-of value-rules sheet-rules first-unmet layout-rules records-rules record-rules allowed place payload payload-length kind u16 u32 numbers section-of product-sent eccentricities-of bottom-of strake-count strakes-of depth-count depths-of sum V-of h-of sides-met strakes-met depths-met side-a side-b d-c product-of factor-read
+unfolding load-depth D N magnifier magnified-load patch-load filling pressure wall-load load loaded-depth z0-scaled decay limit step P q z0 γR R Ks μ up lower between denominator entry table case-sheet refusal-of value-rules sheet-rules first-unmet layout-rules records-rules record-rules allowed place payload payload-length kind u16 u32 numbers section-of product-sent eccentricities-of bottom-of strake-count strakes-of depth-count depths-of sum V-of h-of sides-met strakes-met depths-met side-a side-b d-c product-of factor-read
 marked =
     record {
       described = refl;
@@ -91,6 +111,8 @@ marked =
       middle = middle;
       h-7500 = record { every = by-shape 7500; some = (2500 ∷ 2500 ∷ 2500 ∷ [], record { before = refl; width = refl; height = refl }) };
       h-7499 = record { every = by-shape 7499; some = (2500 ∷ 2500 ∷ 2499 ∷ [], record { before = refl; width = refl; height = refl }) };
+      squat-discharge = squat-discharge;
+      squat-friction-discharge = squat-friction-discharge;
       h-49999 = record { every = by-shape 49999; some = (1999 ∷ replicate 16 3000, record { before = refl; width = refl; height = refl }) };
       h-50000 = record { every = by-shape 50000; some = (2000 ∷ replicate 16 3000, record { before = refl; width = refl; height = refl }) };
       e-1250 = refl;

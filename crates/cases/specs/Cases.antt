@@ -13,7 +13,7 @@ use Rattle.janssen.specs.Filling.Kind.{horizontal}
 use Rattle.janssen.specs.Numbers.{FillingNumbers}
 use Rattle.records.specs.Rules.{first-unmet}
 use Rattle.records.specs.Format.{two-bytes, four-bytes, record-bytes, layout-rules}
-use Rattle.description.specs.Silo.{section-of, h-of}
+use Rattle.description.specs.Silo.{section-of, product-of, h-of}
 use Rattle.loads.specs.declared.Silo.{Silo}
 use Rattle.loads.specs.Load.{Load}
 use Rattle.loads.specs.Load.{number}
@@ -91,11 +91,16 @@ pub record Marked (f : FillingNumbers) : Type 0 where
   pub friction-discharge : (g : FillingNumbers) → number g case-silo p-wf 5000 ≡ 7345 → number g case-silo p-we 5000 ≡ 8080
   -- the numbers that the answer list has: of each pair the first
   pub middle : (l : Load) → number f case-silo l 5000 ≡ middle-number l
-  -- h 7,500 accepted, 7,499 gives 13; 49,999 accepted, 50,000 gives 12
+  -- h 7,500 accepted, and 7,499 (document 02, C-11); 49,999 accepted, 50,000 gives 12
   pub h-7500 : HeightGives 7500 0
-  pub h-7499 : HeightGives 7499 13
+  pub h-7499 : HeightGives 7499 0
   pub h-49999 : HeightGives 49999 0
   pub h-50000 : HeightGives 50000 12
+  -- at h 7,499, with C0 140: p_hf 17,597 gives p_he 24,633; p_wf 7,345 gives p_we 8,080
+  pub squat-discharge : (g : FillingNumbers) (s : List ℕ) → OfHeight 7499 s → product-of s .factor ≡ 140 → (z : ℕ)
+      → number g (silo-of s) p-hf z ≡ 17597 → number g (silo-of s) p-he z ≡ 24633
+  pub squat-friction-discharge : (g : FillingNumbers) (s : List ℕ) → OfHeight 7499 s → (z : ℕ)
+      → number g (silo-of s) p-wf z ≡ 7345 → number g (silo-of s) p-we z ≡ 8080
   -- e 1,250 accepted, 1,251 gives 8; r 1,000 with H 364 accepted, H 363 gives 9
   pub e-1250 : refusal-of (case-sheet 40 140 1250 0 0 five) ≡ 0
   pub e-1251 : refusal-of (case-sheet 40 140 1251 0 0 five) ≡ 8

@@ -1,1 +1,2 @@
 pub mod Discharge
+pub mod Magnifiers

@@ -1,9 +1,28 @@
--- Discharge, patch and flat floor, made from filling pressures in Pa. Document 01, "Loads made from filling". Each formula stands
--- once over fractions, rounding nothing; the load rounds it up at the whole pressure that it rests on.
-use Prim.Native.Nat.{ℕ, _*_}
+-- Discharge, patch and flat floor, made from filling pressures in Pa. Document 01, "Loads made from filling"; document 02, C-11; source 001,
+-- clauses 5.2.2.1 and 5.3. Each formula stands once over fractions, rounding nothing; the load rounds it up at the whole pressure that it rests on.
+use Prim.Native.Nat.{ℕ, _-_, _*_}
+use mathlib.Core.Bool.{cond}
+use lib.Dec.{leb, ltb}
 use Rattle.fraction.specs.Fraction.{Fraction, _⊘_, whole, _⊕_, _⊗_, up}
+use Rattle.janssen.specs.Filling.{hundredths}
 
--- C·p: a filling pressure at discharge (5.20, 5.21 and 5.23) or on the flat floor, each with its own C
+-- 1 + rate·(h/d_c − 1) of a squat silo that is higher than wide; rate in hundredths, h and d_c in mm
+abbrev pub squat-magnifier : ℕ → ℕ → ℕ → Fraction
+squat-magnifier rate h d = whole 1 ⊕ hundredths rate ⊗ ((h - d) ⊘ d)
+
+-- a magnifier by the silo's kind: slender, 2h ≥ 3·d_c, C in hundredths; squat, the above where h > d_c, else 1 (1.4.15 and 5.33)
+unfoldable pub magnifier : ℕ → ℕ → ℕ → ℕ → Fraction
+magnifier C rate h d = cond (leb (3 * d) (2 * h)) (hundredths C) (cond (ltb d h) (squat-magnifier rate h d) (whole 1))
+
+-- C_h: C0 (5.23), or 1 + 2(C0 − 1)(h/d_c − 1) (5.35); C0 in hundredths, from 100 on
+abbrev pub horizontal-magnifier : ℕ → ℕ → ℕ → Fraction
+horizontal-magnifier C0 h d = magnifier C0 (2 * (C0 - 100)) h d
+
+-- C_w: 1.1 (5.23), or 1 + 0.2(h/d_c − 1) (5.34)
+abbrev pub friction-magnifier : ℕ → ℕ → Fraction
+friction-magnifier h d = magnifier 110 20 h d
+
+-- C·p: a filling pressure at discharge (5.20 and 5.21) or on the flat floor, each with its own C
 abbrev pub magnified : Fraction → Fraction → Fraction
 magnified C v = C ⊗ v
 
@@ -19,7 +38,7 @@ patch e d v = (2 ⊘ 10) ⊗ β e d ⊗ v
 abbrev pub C-b : Fraction
 C-b = 12 ⊘ 10
 
--- p_he = up(C0·p_hf), p_we = up(1.1·p_wf), the floor up(1.2·p_vf(V))
+-- p_he = up(C_h·p_hf), p_we = up(C_w·p_wf), the floor up(1.2·p_vf(V))
 unfoldable pub magnified-load : Fraction → ℕ → ℕ
 magnified-load C p = up (magnified C (whole p))
 

@@ -97,12 +97,12 @@ module _ (s : Section) (p : Product) (i : InRange s p) where
   unfolding d-c
   d-c-most = omega (arith, i .a-in .most)
 
-  -- z·(a + b) ≤ 20·a·b in a slender silo
+  -- z·(a + b) ≤ 20·a·b less than ten widths down
   depth-sides : (z : ℕ) → InDepth s z → (side-a s + side-b s) * z ≤ 20 * (side-a s * side-b s)
   unfolding d-c
   depth-sides z d =
-      let ha : z ≤ 10 * side-a s = omega (arith, d .slender, min-le-left (side-a s) (side-b s)) in
-      let hb : z ≤ 10 * side-b s = omega (arith, d .slender, min-le-right (side-a s) (side-b s)) in
+      let ha : z ≤ 10 * side-a s = omega (arith, d .below-ten, min-le-left (side-a s) (side-b s)) in
+      let hb : z ≤ 10 * side-b s = omega (arith, d .below-ten, min-le-right (side-a s) (side-b s)) in
       omega (arith, mul-le-mul-left (side-a s) hb, mul-le-mul-left (side-b s) ha)
 
   pub q-bottom-pos : 0 < q-bottom s

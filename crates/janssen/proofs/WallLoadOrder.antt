@@ -186,7 +186,7 @@ module _ (s : Section) (p : Product) (i : InRange s p) where
   wall-load-deeper (suc n) z d =
       let e : z + suc n ≡ z + n + 1 = omega arith in
       le-trans
-      (wall-load-deeper n z (record { slender = omega (arith, d .slender); wall = omega (arith, d .wall) }))
+      (wall-load-deeper n z (record { below-ten = omega (arith, d .below-ten); wall = omega (arith, d .wall) }))
       (rw e (wall-load-next (z + n) (rw e at d)))
 
 -- a greater depth never has the smaller load

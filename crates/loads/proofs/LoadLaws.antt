@@ -6,10 +6,11 @@ use mathlib.Core.List.{_∷_, _++_, map}
 use native.Mathlib.Omega.{arith}
 use borrow.Author.Tests.{eq-eqb, ne-eqb}
 use lib.ListN.{getD, replicate, getD-replicate}
+use Rattle.fraction.specs.Fraction.{whole, _⪯_}
 use Rattle.janssen.specs.declared.Section.{Section}
 use Rattle.janssen.specs.declared.Product.{Product}
 use Rattle.janssen.specs.Section.{d-c}
-use Rattle.janssen.specs.Filling.{Kind, factors, q, P}
+use Rattle.janssen.specs.Filling.{Kind, hundredths, factors, q, P}
 use Rattle.janssen.specs.Filling.Kind.{horizontal, vertical, wall-friction}
 use Rattle.janssen.specs.Numbers.{FillingNumbers}
 use Rattle.janssen.specs.program.Pressure.{filling, wall-load, computed}
@@ -22,12 +23,14 @@ use Rattle.janssen.proofs.WallLoadLaws.{wall-load-band}
 use Rattle.janssen.proofs.WallLoadOrder.{wall-load-rises}
 use Rattle.allowance.proofs.LowerLaws.{Filled, filled-by-band}
 use Rattle.discharge.specs.Discharge.{magnified-load, C-b}
+use Rattle.discharge.specs.program.Magnifier.{held, Moderate}
+use Rattle.discharge.proofs.Magnifiers.{magnifier-between, magnifier-moderate}
 use Rattle.discharge.proofs.Discharge.{magnified-load-mono, patch-load-mono, magnified-load-allowance, patch-load-allowance}
 use Rattle.hopper.proofs.Hopper.{P-n-allowance, P-t-allowance}
 use Rattle.loads.specs.declared.Silo.{Silo}
 use Rattle.loads.specs.declared.Basis.{Basis}
 use Rattle.loads.specs.Load.{Load}
-use Rattle.loads.specs.Load.{OfFilling, load-depth, pressure-at, C-h, C-w, number, quarters, normal-number, friction-number, bottom-numbers}
+use Rattle.loads.specs.Load.{OfFilling, load-depth, pressure-at, full-height, C-h, C-w, number, quarters, normal-number, friction-number, bottom-numbers}
 use Rattle.loads.specs.Load.Load.{listed-depth, p-hf, p-wf, p-vf, P-w, p-he, p-we, p-p}
 use Rattle.loads.specs.Load.OfFilling.{of-p-hf, of-p-wf, of-p-vf, of-P-w}
 use Rattle.loads.specs.Holds.{InBand, Holds, BottomHolds}
@@ -85,18 +88,29 @@ module _ (c : Silo) (fits : Fits c) where
       → Filled (P k (c .section) (c .product)) (q (factors k) (c .section) (c .product) (load-depth c depth)) (pressure-at computed c k depth)
   filled-at k depth d = filled-by-band (band-at k depth d)
 
-  -- the factors: C_h is at most 2, and 2·C_w + 1 at most 4
-  C-h-proper : 0 < C-h c .bottom
-  C-h-proper = omega arith
+  dc-positive : 0 < d-c (c .section)
+  dc-positive = d-c-positive (c .section) (c .product) (fits .range)
 
-  C-h-most : C-h c .top ≤ 2 * C-h c .bottom
-  C-h-most = omega (arith, fits .factor-most)
+  pub dc-most : d-c (c .section) ≤ 50000
+  dc-most = d-c-most (c .section) (c .product) (fits .range)
 
-  C-w-proper : 0 < C-w c .bottom
-  C-w-proper = omega arith
+  -- C_h lies between 1 and C0, C_w between 1 and 1.1
+  pub C-h-between : (whole 1 ⪯ C-h c) × (C-h c ⪯ hundredths (c .product .factor))
+  C-h-between = magnifier-between (c .product .factor) (full-height c) (d-c (c .section)) (fits .factor-in .least) dc-positive
+
+  pub C-w-between : (whole 1 ⪯ C-w c) × (C-w c ⪯ hundredths 110)
+  C-w-between = magnifier-between 110 (full-height c) (d-c (c .section)) (omega arith) dc-positive
+
+  -- so each is at most 2, and 2·C_w + 1 at most 4
+  pub C-h-moderate : Moderate (held (C-h c))
+  C-h-moderate =
+      magnifier-moderate (c .product .factor) (full-height c) (d-c (c .section)) (fits .factor-in .least) dc-positive (fits .factor-in .most) dc-most
+
+  pub C-w-moderate : Moderate (held (C-w c))
+  C-w-moderate = magnifier-moderate 110 (full-height c) (d-c (c .section)) (omega arith) dc-positive (omega arith) dc-most
 
   C-w-most : 2 * C-w c .top + C-w c .bottom ≤ 4 * C-w c .bottom
-  C-w-most = omega arith
+  C-w-most = omega (arith, C-w-between .1 .order)
 
   -- every load's number has what is claimed of it
   pub holds : (l : Load) (depth : ℕ) → Reached c depth → Holds c l depth (number computed c l depth)
@@ -105,11 +119,11 @@ module _ (c : Silo) (fits : Fits c) where
   holds p-wf depth d = band-at wall-friction depth d
   holds p-vf depth d = band-at vertical depth d
   holds P-w depth d = wall-load-band (c .section) (c .product) (load-depth c depth) (fits .range) d
-  holds p-he depth d = magnified-load-allowance (C-h c) C-h-proper 5 _ (omega (arith, C-h-most)) (filled-at horizontal depth d)
-  holds p-we depth d = magnified-load-allowance (C-w c) C-w-proper 4 _ C-w-most (filled-at wall-friction depth d)
+  holds p-he depth d = magnified-load-allowance (C-h c) (C-h-moderate .proper) 5 _ (omega (arith, C-h-moderate .most)) (filled-at horizontal depth d)
+  holds p-we depth d = magnified-load-allowance (C-w c) (C-w-moderate .proper) 4 _ C-w-most (filled-at wall-friction depth d)
   holds p-p depth d =
-      patch-load-allowance (C-h c) C-h-proper (c .eccentricity) (d-c (c .section)) _ C-h-most
-      (d-c-positive (c .section) (c .product) (fits .range)) (fits .eccentricity-most) (filled-at horizontal depth d)
+      patch-load-allowance (C-h c) (C-h-moderate .proper) (c .eccentricity) (d-c (c .section)) _ (C-h-moderate .most) dc-positive
+      (fits .eccentricity-most) (filled-at horizontal depth d)
 
   filling-down : {l : Load} → OfFilling l → (depth depth' : ℕ) → Reached c depth' → depth ≤ depth' → number computed c l depth ≤ number computed c l depth'
   filling-down o depth depth' d h = filling-more c c refl refl fits o depth depth' d (load-depth-rises c depth depth' h)
@@ -121,11 +135,11 @@ module _ (c : Silo) (fits : Fits c) where
   rises p-wf depth depth' d h = filling-down of-p-wf depth depth' d h
   rises p-vf depth depth' d h = filling-down of-p-vf depth depth' d h
   rises P-w depth depth' d h = filling-down of-P-w depth depth' d h
-  rises p-he depth depth' d h = magnified-load-mono (C-h c) C-h-proper (filling-down of-p-hf depth depth' d h)
-  rises p-we depth depth' d h = magnified-load-mono (C-w c) C-w-proper (filling-down of-p-wf depth depth' d h)
+  rises p-he depth depth' d h = magnified-load-mono (C-h c) (C-h-moderate .proper) (filling-down of-p-hf depth depth' d h)
+  rises p-we depth depth' d h = magnified-load-mono (C-w c) (C-w-moderate .proper) (filling-down of-p-wf depth depth' d h)
   rises p-p depth depth' d h =
-      patch-load-mono (c .eccentricity) (d-c (c .section)) (d-c-positive (c .section) (c .product) (fits .range))
-      (magnified-load-mono (C-h c) C-h-proper (filling-down of-p-hf depth depth' d h))
+      patch-load-mono (c .eccentricity) (d-c (c .section)) dc-positive
+      (magnified-load-mono (C-h c) (C-h-moderate .proper) (filling-down of-p-hf depth depth' d h))
 
   -- and the bottom's, wherever they stand
   pub bottom-holds : (at : ℕ → ℕ) → ((k : ℕ) → k < 10 → at k ≡ getD (bottom-numbers computed c) k 0) → BottomHolds c at
@@ -146,7 +160,7 @@ module _ (c : Silo) (fits : Fits c) where
             (P-t-allowance (c .section) (c .product) (c .height) (c .run) k x (fits .range) hr h fill);
       }
 
--- the basis of a silo that fits: its curves reach every depth, and d_c leaves room for the patch
+-- the basis of a silo that fits: its curves reach every depth, d_c leaves room for the patch, and the magnifiers are moderate
 module _ (b : Basis) (sound : Sound b) where
   pub prepared-reaches : (depth : ℕ) → Reached (b .silo) depth → AllReach (b .prepared) (load-depth (b .silo) depth)
   prepared-reaches depth d =
@@ -156,8 +170,9 @@ module _ (b : Basis) (sound : Sound b) where
   pub shorter-fits : (0 < b .shorter) × (b .shorter ≤ 50000) × (4 * b .silo .eccentricity ≤ b .shorter)
   shorter-fits =
       let e : b .shorter ≡ d-c (b .silo .section) = ap (λ (x : Basis). x .shorter) (sound .right) in
-      let i = sound .fits .range in (
-        omega (arith, d-c-positive (b .silo .section) (b .silo .product) i),
-        omega (arith, d-c-most (b .silo .section) (b .silo .product) i),
-        omega (arith, sound .fits .eccentricity-most),
-      )
+      (omega (arith, dc-positive (b .silo) (sound .fits)), omega (arith, dc-most (b .silo) (sound .fits)), omega (arith, sound .fits .eccentricity-most))
+
+  pub magnifiers-moderate : Moderate (b .horizontal) × Moderate (b .friction)
+  magnifiers-moderate =
+      subst (λ (x : Basis). Moderate (x .horizontal) × Moderate (x .friction)) (sym (sound .right))
+      (C-h-moderate (b .silo) (sound .fits), C-w-moderate (b .silo) (sound .fits))

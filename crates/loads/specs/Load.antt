@@ -1,16 +1,16 @@
 -- The loads by name, and the number of each. Document 01, "Sheet", "Loads made from filling" and "Answer list". Lengths in mm; pressures in
 -- Pa, P_w in N/m. The filling pressures and P_w are free: f names them.
-use Prim.Native.Nat.{ℕ}
+use Prim.Native.Nat.{ℕ, _+_}
 use mathlib.Core.Bool.{cond}
 use mathlib.Core.List.{List, [], _∷_, _++_, map}
 use lib.Dec.{eqb}
 use lib.ListN.{replicate}
-use Rattle.fraction.specs.Fraction.{Fraction, _⊘_}
+use Rattle.fraction.specs.Fraction.{Fraction}
 use Rattle.janssen.specs.Section.{d-c}
-use Rattle.janssen.specs.Filling.{Kind, hundredths}
+use Rattle.janssen.specs.Filling.{Kind}
 use Rattle.janssen.specs.Filling.Kind.{horizontal, vertical, wall-friction}
 use Rattle.janssen.specs.Numbers.{FillingNumbers}
-use Rattle.discharge.specs.Discharge.{magnified-load, patch-load, C-b}
+use Rattle.discharge.specs.Discharge.{horizontal-magnifier, friction-magnifier, magnified-load, patch-load, C-b}
 use Rattle.hopper.specs.Hopper.{B, n3, P-n, P-t}
 use Rattle.loads.specs.declared.Silo.{Silo}
 
@@ -33,12 +33,16 @@ load-depth c depth = depth
 abbrev pub pressure-at : FillingNumbers → Silo → Kind → ℕ → ℕ
 pressure-at f c k depth = f .filling-at k (c .section) (c .product) (load-depth c depth)
 
--- the factors of p_hf and of p_wf at discharge: C0 (5.21 and 5.23) and 1.1 (5.20 and 5.23)
+-- h = V + H, from the equivalent surface down to the outlet
+abbrev pub full-height : Silo → ℕ
+full-height c = load-depth c (c .foot) + c .height
+
+-- the magnifiers of p_hf and of p_wf at discharge (5.20 and 5.21)
 abbrev pub C-h : Silo → Fraction
-C-h c = hundredths (c .product .factor)
+C-h c = horizontal-magnifier (c .product .factor) (full-height c) (d-c (c .section))
 
 abbrev pub C-w : Silo → Fraction
-C-w c = 11 ⊘ 10
+C-w c = friction-magnifier (full-height c) (d-c (c .section))
 
 -- the number of a load at a depth below the brim
 abbrev pub number : FillingNumbers → Silo → Load → ℕ → ℕ

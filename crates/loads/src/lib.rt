@@ -2,13 +2,13 @@
 ghost use mathlib.Core.Path.{_≡_};
 ghost use mathlib.Core.List.{_++_, map};
 ghost use Prim.Native.Nat.{_^_, _<_, _≤_};
-ghost use Rattle.janssen.specs.program.Range.{InRange};
 ghost use Rattle.hopper.specs.Hopper.{P-n, P-t};
 ghost use Rattle.exponential.specs.program.Table.{table};
 ghost use Rattle.loads.specs.Load.{number, quarters, normal-number, friction-number, bottom-numbers};
 ghost use Rattle.loads.specs.Load.Load.{p-vf, p-he};
 ghost use Rattle.loads.specs.program.Basis.{basis-for, Reached, Fits, Sound, depth-numbers};
 ghost use Rattle.janssen.specs.program.Pressure.{computed};
+use discharge::Magnifier;
 use janssen::Pascals;
 use janssen::Prepared;
 use janssen::Product;
@@ -33,21 +33,29 @@ pub struct Basis {
     pub prepared: Prepared,
     // d_c, mm
     pub shorter: u64,
+    // C_h and C_w
+    pub horizontal: Magnifier,
+    pub friction: Magnifier,
 }
 
 // What is worked out once, for a silo inside its ranges.
 pub fn basis_of(silo: Silo) -> Basis
-    requires { ⌜ InRange (silo .section) (silo .product) ⌝ }
+    requires { ⌜ Fits silo ⌝ }
     ensures { λ r. ⌜ r ≡ basis-for silo ⌝ }
 {
     let section = silo.section;
     let product = silo.product;
     let prepared = janssen::prepare(section, product);
     let shorter = janssen::shorter_side(section);
+    let h = silo.foot + silo.height;
+    let horizontal = discharge::horizontal_magnifier(product.factor, h, shorter);
+    let friction = discharge::friction_magnifier(h, shorter);
     Basis {
         silo,
         prepared,
         shorter,
+        horizontal,
+        friction,
     }
 }
 
@@ -60,8 +68,10 @@ pub fn depth_numbers(entries: &[u64; 3393], basis: Basis, z: u64) -> [u32; 8]
     let filling = janssen::loads_at(entries, prepared, z);
     let p_hf = filling.horizontal;
     let p_wf = filling.wall_friction;
-    let p_he = discharge::horizontal_discharge(basis.silo.product.factor, p_hf);
-    let p_we = discharge::friction_discharge(p_wf);
+    let c_h = basis.horizontal;
+    let c_w = basis.friction;
+    let p_he = discharge::magnified(c_h, p_hf);
+    let p_we = discharge::magnified(c_w, p_wf);
     let p_p = discharge::patch(basis.silo.eccentricity, basis.shorter, p_he);
     [
         z as u32,
@@ -155,6 +165,7 @@ pub fn strake_number(entries: &[u64; 3393], basis: Basis, edge: u64) -> u32
     let prepared = basis.prepared;
     let curve = prepared.horizontal;
     let horizontal = janssen::filling_pressure(entries, curve, edge);
-    let load = discharge::horizontal_discharge(basis.silo.product.factor, horizontal);
+    let c_h = basis.horizontal;
+    let load = discharge::magnified(c_h, horizontal);
     load.0
 }

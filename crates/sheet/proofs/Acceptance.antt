@@ -130,8 +130,7 @@ accepted s h =
       strakes-range = λ i j. let p = strakes-met-at (strakes-of s) (m 4) i (omega arith) in record { least = p .0; most = p .1 };
       depths-most = λ i j. rising-most (V-of s) 0 (depths-of s) (m 5) i (omega arith);
       depths-rise = λ i j. rising-next (V-of s) 0 (depths-of s) (m 5) i (omega arith);
-      slender = ltb-true (h-of s) (10 * dc) (m 6);
-      tall = leb-true (3 * dc) (2 * h-of s) (m 7);
+      below-ten = ltb-true (h-of s) (10 * dc) (m 6);
     }
 
 -- accepted: not refused
@@ -152,15 +151,18 @@ not-refused s a =
       of-bottom (d-c c) (bottom-of s) (v .bottom-shape),
       at-strakes-met (strakes-of s) (λ i j. let w = a .strakes-range i (omega arith) in (w .least, w .most)),
       next-rising (V-of s) 0 (depths-of s) (λ j. omega arith) (λ i j. a .depths-most i (omega arith)) (λ i j. a .depths-rise i (omega arith)),
-      lt-ltb (h-of s) (10 * d-c c) (a .slender),
-      le-leb (3 * d-c c) (2 * h-of s) (a .tall),
+      lt-ltb (h-of s) (10 * d-c c) (a .below-ten),
     )
 
 pub sheet-numbered : (s : List ℕ) → numbered (sheet-rules s) ≡ true
 unfolding sheet-rules layout-rules records-rules record-rules value-rules
 sheet-numbered s = refl
 
--- 14 is no rule of the sheet: the length call never answers it
+-- 13 and 14 are no rules of the sheet: the length call never answers them
+pub never-13 : (s : List ℕ) → refusal-of s ≡ 13 → ⊥
+unfolding refusal-of sheet-rules layout-rules records-rules record-rules value-rules
+never-13 s e = false≢true (among (sheet-rules s) 13 (omega arith) e)
+
 pub never-14 : (s : List ℕ) → refusal-of s ≡ 14 → ⊥
 unfolding refusal-of sheet-rules layout-rules records-rules record-rules value-rules
 never-14 s e = false≢true (among (sheet-rules s) 14 (omega arith) e)

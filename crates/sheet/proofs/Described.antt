@@ -87,9 +87,9 @@ module _ (s : List ℕ) where
         omega arith
 
     -- the wall is less than ten widths high
-    pub V-slender : V-of s < 10 * d-c (section-of s)
+    pub V-below-ten : V-of s < 10 * d-c (section-of s)
     unfolding h-of
-    V-slender = let h = a .slender in omega arith
+    V-below-ten = let h = a .below-ten in omega arith
 
     -- section and product as they are read
     pub in-range : InRange (section-of s) (product-of s)

@@ -66,6 +66,4 @@ pub record Accepted (s : List ℕ) : Type 0 where
   pub depths-most : (i : ℕ) → i < depth-count s → getD (depths-of s) i 0 ≤ V-of s
   pub depths-rise : (i : ℕ) → suc i < depth-count s → getD (depths-of s) i 0 < getD (depths-of s) (suc i) 0
   -- 12
-  pub slender : h-of s < 10 * d-c (section-of s)
-  -- 13
-  pub tall : 3 * d-c (section-of s) ≤ 2 * h-of s
+  pub below-ten : h-of s < 10 * d-c (section-of s)

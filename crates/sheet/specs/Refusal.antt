@@ -47,7 +47,7 @@ unfoldable pub depths-met : ℕ → ℕ → List ℕ → Bool
 depths-met top low [] = true
 depths-met top low (z ∷ l) = within low top z && depths-met top (z + 1) l
 
--- the rules of a sheet's values, in order; 12: h < 10·d_c; 13: 2h ≥ 3·d_c
+-- the rules of a sheet's values, in order; 12: h < 10·d_c; 13 is retired (document 02, C-11)
 unfoldable pub value-rules : List ℕ → List Rule
 value-rules s =
     6 unless sides-met (section-of s)
@@ -57,10 +57,9 @@ value-rules s =
     ∷ 10 unless strakes-met (strakes-of s)
     ∷ 11 unless depths-met (V-of s) 0 (depths-of s)
     ∷ 12 unless ltb (h-of s) (10 * d-c (section-of s))
-    ∷ 13 unless leb (3 * d-c (section-of s)) (2 * h-of s)
     ∷ []
 
--- 1 to 5 on the records, then 6 to 13 on the values
+-- 1 to 5 on the records, then 6 to 12 on the values
 unfoldable pub sheet-rules : List ℕ → List Rule
 sheet-rules s = layout-rules s ++ value-rules s
 

@@ -2,7 +2,7 @@
 ghost use mathlib.Core.Path.{_≡_};
 ghost use Rattle.sheet.specs.Refusal.{refusal-of};
 
-pub mod rules; // rules 6 to 13 on the values
+pub mod rules; // rules 6 to 12 on the values
 
 // 0, or the number of the first refusal that applies to the bytes.
 pub fn refusal(sheet: &[u8]) -> u32

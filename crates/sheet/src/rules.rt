@@ -1,7 +1,7 @@
-// Rules 6 to 13, each a test; dc is d_c, mm.
+// Rules 6 to 12, each a test; dc is d_c, mm.
 ghost use mathlib.Core.Path.{_≡_};
 ghost use Prim.Native.Nat.{_*_, _<_};
-ghost use lib.Dec.{leb, ltb};
+ghost use lib.Dec.{ltb};
 ghost use Rattle.records.specs.Rules.{within, first-unmet};
 ghost use Rattle.description.specs.Silo.{strakes-of, depths-of};
 ghost use Rattle.sheet.specs.Refusal.{sides-met, product-met, eccentricities-met, flat, hopper, strakes-met, depths-met, value-rules};
@@ -116,15 +116,7 @@ fn height_met(dc: u64, h: u64) -> bool
     h < 10 * dc
 }
 
-// Rule 13.
-fn slender_met(dc: u64, h: u64) -> bool
-    requires { ⌜ (dc < 4294967296) × (h < 8589934592) ⌝ }
-    ensures { λ r. ⌜ r ≡ leb (3 * dc) (2 * h) ⌝ }
-{
-    3 * dc <= 2 * h
-}
-
-// The first refusal of rules 6 to 13, or 0; h is the height of the silo, mm.
+// The first refusal of rules 6 to 12, or 0; h is the height of the silo, mm.
 pub fn values_refusal(sheet: &[u8]) -> u32
     ensures { λ r. ⌜ r ≡ first-unmet (value-rules (now (sheet .entry))) ⌝ }
 {
@@ -134,7 +126,6 @@ pub fn values_refusal(sheet: &[u8]) -> u32
     let height = wall_height(sheet);
     let h = height + bottom.height;
     let below_ten = height_met(dc, h);
-    let slender = slender_met(dc, h);
     let refused = unless(0, 6, sides_met(section));
     let refused = unless(refused, 7, product_met(read_product_sent(sheet)));
     let refused = unless(
@@ -145,6 +136,5 @@ pub fn values_refusal(sheet: &[u8]) -> u32
     let refused = unless(refused, 9, is_flat(bottom) | is_hopper(dc, bottom));
     let refused = unless(refused, 10, strakes_met(sheet));
     let refused = unless(refused, 11, depths_met(sheet, height));
-    let refused = unless(refused, 12, below_ten);
-    unless(refused, 13, slender)
+    unless(refused, 12, below_ten)
 }

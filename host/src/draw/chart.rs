@@ -64,7 +64,7 @@ pub fn draw(svg: &mut Svg, report: &Report, layout: &Layout, curves: &Loads) {
             svg.dot(curve.class, point(row, curve));
         }
     }
-    legend(svg, layout);
+    legend(svg, layout, curves);
 }
 
 fn pressure_axis(svg: &mut Svg, report: &Report, layout: &Layout, (step, scale): (f64, f64)) {
@@ -108,12 +108,23 @@ fn own_depths(svg: &mut Svg, silo: &Description, layout: &Layout) {
     svg.text("start small", (CHART.0, layout.chart_y(layout.wall) + 16.0), words);
 }
 
+/// Of a filling pressure, the one on discharge whose line covers its own.
+fn covering(i: usize, curves: &Loads) -> Option<&'static Curve> {
+    let curve = &CURVES[i];
+    let next = CURVES.get(i + 1).filter(|_| curve.class.ends_with("filling"))?;
+    curves.rows().all(|row| row[curve.place] == row[next.place]).then_some(next)
+}
+
 /// Above the chart.
-fn legend(svg: &mut Svg, layout: &Layout) {
+fn legend(svg: &mut Svg, layout: &Layout, curves: &Loads) {
     for (i, curve) in CURVES.iter().enumerate() {
         let y = layout.brim - 96.0 + 13.5 * i as f64;
         svg.line(curve.class, (CHART.0, y - 4.0), (CHART.0 + 26.0, y - 4.0));
         svg.text("start", (CHART.0 + 32.0, y), curve.name);
-        svg.text("start", (CHART.0 + 62.0, y), curve.words);
+        let words = match covering(i, curves) {
+            Some(over) => format!("{}: equal to {}", curve.words, over.name),
+            None => curve.words.to_string(),
+        };
+        svg.text("start", (CHART.0 + 62.0, y), &words);
     }
 }

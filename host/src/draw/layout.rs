@@ -8,13 +8,19 @@ pub const LEFT: f64 = 40.0;
 pub const RIGHT: f64 = 1082.0;
 pub const TOP: f64 = 38.0;
 pub const BOTTOM: f64 = 755.0;
-/// The silo stands between these.
+/// The silo stands between these: beside its tables, or above them where that makes it so many
+/// times as large.
 const SILO: Point = (134.0, 350.0);
+const WIDE_SILO: Point = (134.0, 740.0);
+const LARGER: f64 = 1.5;
 /// Lines from the silo to the table are level as far as this.
 pub const GUTTER: f64 = 368.0;
 pub const TABLE: Point = (382.0, 758.0);
-/// The columns of the strakes' table: strake, edge and five pressures; each is flush right.
-pub const COLUMNS: [f64; 7] = [421.0, 470.0, 527.0, 584.0, 641.0, 698.0, 755.0];
+/// The columns of the strakes' table beside the silo: strake, edge and five pressures; each is
+/// flush right.
+const COLUMNS: [f64; 7] = [421.0, 470.0, 527.0, 584.0, 641.0, 698.0, 755.0];
+/// From the arrow below a flat floor to the first row of a table below it, for the table's head.
+const TABLE_HEAD: f64 = 60.0;
 /// The chart's pressures go from left to right.
 pub const CHART: Point = (778.0, 1019.0);
 /// A wall drawn lower than this has a chart of its own scale, at most so high.
@@ -36,6 +42,8 @@ pub const HOPPER_HEAD: f64 = 43.0;
 const BELOW_OUTLET: f64 = 62.0;
 /// Below a flat floor: arrow and load.
 const BELOW_FLOOR: f64 = 30.0;
+/// Strakes drawn lower than this have no line between them.
+const LOWEST_STRAKE: f64 = 2.0;
 /// Points on the hopper's slope.
 const POINTS: usize = 5;
 
@@ -52,6 +60,10 @@ pub struct Layout {
     pub strake_rows: Vec<f64>,
     pub hopper_rows: Vec<f64>,
     line: f64,
+    /// The ends between which the silo stands.
+    ends: Point,
+    /// The table's left end and the foot of its head.
+    pub table: Point,
 }
 
 /// The silo's lines.
@@ -72,6 +84,36 @@ pub struct Outline {
 impl Layout {
     /// Silo, tables and chart between the brim and `lowest`.
     pub fn of(silo: &Description, brim: f64, lowest: f64) -> Layout {
+        let beside = Layout::beside(silo, brim, lowest);
+        let above = Layout::above(silo, brim, lowest);
+        let is_larger = silo.is_flat() && above.scale >= LARGER * beside.scale;
+        let mut layout = if is_larger { above } else { beside };
+        layout.place_rows(silo, lowest);
+        layout
+    }
+
+    /// A store with a flat floor above its table.
+    fn above(silo: &Description, brim: f64, lowest: f64) -> Layout {
+        let wall = silo.wall_height() as f64;
+        let width = f64::from(silo.section.shorter_side());
+        let rows = FIRST + LINE * (silo.strakes.len() - 1) as f64;
+        let room = lowest - brim - 2.0 * BELOW_FLOOR - TABLE_HEAD - rows;
+        let scale = (room / wall).min((WIDE_SILO.1 - WIDE_SILO.0) / width);
+        Layout {
+            brim,
+            scale,
+            depth_scale: own_scale(wall, lowest - brim),
+            wall,
+            strake_rows: Vec::new(),
+            hopper_rows: Vec::new(),
+            line: LINE,
+            ends: WIDE_SILO,
+            table: (LEFT, brim + wall * scale + BELOW_FLOOR + TABLE_HEAD),
+        }
+    }
+
+    /// The silo at the left of its tables.
+    fn beside(silo: &Description, brim: f64, lowest: f64) -> Layout {
         let (wall, height) = (silo.wall_height() as f64, silo.height() as f64);
         let width = f64::from(silo.section.shorter_side());
         let (room, strakes) = (lowest - brim, silo.strakes.len() as f64);
@@ -83,22 +125,26 @@ impl Layout {
         let beside = head + line * points as f64;
         let scale =
             ((room - below) / height).min((room - beside) / wall).min((SILO.1 - SILO.0) / width);
-        let line = line.min(((wall * scale - FIRST) / (strakes - 1.0)).max(TIGHTEST));
-        let rows_fit = FIRST + line * (strakes - 1.0) <= wall * scale + 0.1;
-        let depth_scale = match rows_fit && wall * scale >= LOWEST_CHART {
-            true => scale,
-            false => OWN_CHART.min(room - BELOW_FLOOR) / wall,
-        };
-        let (strake_rows, hopper_rows) = (Vec::new(), Vec::new());
-        let mut layout = Layout { brim, scale, depth_scale, wall, strake_rows, hopper_rows, line };
-        layout.place_rows(silo, lowest);
-        layout
+        let beside_wall = (wall * scale - FIRST) / (strakes - 1.0);
+        let rows_fit = beside_wall >= line.min(TIGHTEST);
+        let is_aligned = rows_fit && wall * scale >= LOWEST_CHART;
+        Layout {
+            brim,
+            scale,
+            depth_scale: if is_aligned { scale } else { own_scale(wall, room) },
+            wall,
+            strake_rows: Vec::new(),
+            hopper_rows: Vec::new(),
+            line: if rows_fit { line.min(beside_wall) } else { line },
+            ends: SILO,
+            table: (TABLE.0, brim),
+        }
     }
 
     /// Each row as near to its strake's edge or to its point of the slope as the others let it.
     fn place_rows(&mut self, silo: &Description, lowest: f64) {
         let edges: Vec<f64> = silo.edges().map(|(_, edge)| self.silo_y(edge as f64)).collect();
-        let first = self.brim + FIRST;
+        let first = self.table.1 + FIRST;
         let last = self.silo_y(self.wall).max(first + self.line * (edges.len() - 1) as f64);
         self.strake_rows = apart(&edges, self.line, (first, last));
         if !silo.is_flat() {
@@ -113,9 +159,25 @@ impl Layout {
         self.scale == self.depth_scale
     }
 
+    /// The table stands beside the silo, and lines lead to it.
+    pub fn is_beside(&self) -> bool {
+        self.table.0 == TABLE.0
+    }
+
+    /// The columns of the strakes' table; each is flush right.
+    pub fn columns(&self) -> [f64; COLUMNS.len()] {
+        COLUMNS.map(|x| x - TABLE.0 + self.table.0)
+    }
+
     /// A length in the silo, mm, in pixels.
     pub fn length(&self, length: u32) -> f64 {
         f64::from(length) * self.scale
+    }
+
+    /// The lower edge of a strake has a line in the silo.
+    pub fn has_edge(&self, silo: &Description, strake: usize) -> bool {
+        let beside = &silo.strakes[strake..silo.strakes.len().min(strake + 2)];
+        beside.iter().any(|height| self.length((*height).into()) >= LOWEST_STRAKE)
     }
 
     /// The height of a depth in the silo.
@@ -138,7 +200,7 @@ impl Layout {
     }
 
     pub fn outline(&self, silo: &Description) -> Outline {
-        let axis = (SILO.0 + SILO.1) / 2.0;
+        let axis = (self.ends.0 + self.ends.1) / 2.0;
         let half = self.length(silo.section.shorter_side()) / 2.0;
         let outlet_half = half - self.length(silo.hopper_run);
         let foot = self.silo_y(self.wall);
@@ -163,6 +225,11 @@ impl Layout {
             (outlet_right + (right - outlet_right) * part, outlet + (foot - outlet) * part)
         })
     }
+}
+
+/// Of the depths in a chart that has its own, V in mm and the room in pixels.
+fn own_scale(wall: f64, room: f64) -> f64 {
+    OWN_CHART.min(room - BELOW_FLOOR) / wall
 }
 
 /// Rows moved apart as little as is needed to stand at least `line` from each other, in the same
@@ -224,7 +291,9 @@ mod tests {
                 assert!(rows.windows(2).all(|pair| pair[1] - pair[0] >= 9.49), "{rows:?}");
                 assert!(rows[0] > 150.0 && rows[rows.len() - 1] < 625.0, "{rows:?}");
                 let outline = layout.outline(&silo);
-                assert!(outline.left >= SILO.0 - 0.1 && outline.right <= SILO.1 + 0.1);
+                let (left, right) = layout.ends;
+                assert!(outline.left >= left - 0.1 && outline.right <= right + 0.1);
+                assert!(layout.is_beside() || rows[0] > outline.foot + BELOW_FLOOR);
                 assert!(outline.outlet < 625.0 && layout.chart_y(layout.wall) < 625.0);
             }
         }

@@ -3,11 +3,13 @@
 use super::hopper;
 use super::layout::{Layout, Outline};
 use super::shown::length;
-use super::svg::{Point, Svg};
+use super::svg::{Point, Svg, OUTSIDE, SHORTEST};
 use crate::description::{Description, Section};
 
 /// A strake drawn lower than this carries no number.
 const LEAST_NUMBERED: f64 = 12.0;
+/// From one height's text to the other's.
+const LINE: f64 = 13.0;
 /// Length of the arrows of filling and outlet.
 const ARROW: f64 = 24.0;
 
@@ -43,7 +45,7 @@ fn strakes(svg: &mut Svg, silo: &Description, layout: &Layout, outline: &Outline
     for (i, (height, edge)) in silo.edges().enumerate() {
         let lower = layout.silo_y(edge as f64);
         let upper = lower - layout.length(height.into());
-        if i < last || !silo.is_flat() {
+        if i == last && !silo.is_flat() || i < last && layout.has_edge(silo, i) {
             svg.line("edge", (outline.left, lower), (outline.right, lower));
         }
         if lower - upper >= LEAST_NUMBERED {
@@ -71,25 +73,41 @@ fn across(svg: &mut Svg, silo: &Description, outline: &Outline) {
     svg.text("middle", (axis, y - 6.0), &text);
 }
 
+/// The wall's height and the hopper's.
 fn heights(svg: &mut Svg, silo: &Description, outline: &Outline) {
     let Outline { left, brim, foot, outlet, outlet_left, .. } = *outline;
     let x = left - 16.0;
-    let hopper = silo.hopper_height.into();
-    // the hopper's text stands above the angle's
-    let parts = [
-        ("V", (brim, foot), silo.wall_height(), left, foot),
-        ("H", (foot, outlet), hopper, outlet_left, outlet - 3.5),
-    ];
-    for (name, (upper, lower), height, end, lowest) in parts {
-        if height == 0 {
-            continue;
-        }
-        svg.dimension((x, upper), (x, lower));
-        svg.line("extension", (x - 4.0, upper), (left - 3.0, upper));
-        svg.line("extension", (x - 4.0, lower), (end - 3.0, lower));
-        let middle = ((upper + lower) / 2.0).min(lowest) + 3.5;
-        svg.text("end", (x - 6.0, middle), &format!("{name} {}", length(height)));
+    let mut extension = |y: f64, end: f64| svg.line("extension", (x - 4.0, y), (end - 3.0, y));
+    extension(brim, left);
+    extension(foot, left);
+    let mut wall = (brim + foot) / 2.0;
+    if silo.is_flat() {
+        svg.dimension((x, brim), (x, foot));
+    } else {
+        extension(outlet, outlet_left);
+        chain(svg, x, [brim, foot, outlet]);
+        // above the angle's text, and below the wall's
+        let hopper = ((foot + outlet) / 2.0).min(outlet - 3.5);
+        wall = wall.min(hopper - LINE);
+        height(svg, "H", silo.hopper_height.into(), (x, hopper));
     }
+    height(svg, "V", silo.wall_height(), (x, wall));
+}
+
+fn height(svg: &mut Svg, name: &str, height: u64, (x, y): Point) {
+    svg.text("end", (x - 6.0, y + 3.5), &format!("{name} {}", length(height)));
+}
+
+/// Two dimensions one below the other; where both are too short for arrows, a stroke parts them.
+fn chain(svg: &mut Svg, x: f64, [upper, middle, lower]: [f64; 3]) {
+    if middle - upper >= SHORTEST || lower - middle >= SHORTEST {
+        svg.dimension((x, upper), (x, middle));
+        return svg.dimension((x, middle), (x, lower));
+    }
+    svg.arrow((x, upper - OUTSIDE), (x, upper));
+    svg.line("dimension", (x, upper), (x, lower));
+    svg.line("dimension", (x - 3.0, middle + 3.0), (x + 3.0, middle - 3.0));
+    svg.arrow((x, lower + OUTSIDE), (x, lower));
 }
 
 /// An eccentricity from the axis to `x`, its text behind it.

@@ -77,11 +77,12 @@ pub fn escape(text: &str) -> String {
 /// lower. A space of no width keeps what follows them at its distance.
 fn markup(text: &str) -> String {
     let words = text.split(' ').map(|word| {
-        let Some((base, low)) = word.split_once('_').filter(|(base, _)| base.len() == 1) else {
+        let symbol = |base: &str| base.rsplit('/').next().is_some_and(|last| last.len() == 1);
+        let Some((base, low)) = word.split_once('_').filter(|(base, _)| symbol(base)) else {
             return escape(word);
         };
         let end = low.find(|c: char| !c.is_alphanumeric()).unwrap_or(low.len());
-        let (low, rest) = (&low[..end], escape(&low[end..]));
+        let (base, low, rest) = (escape(base), &low[..end], escape(&low[end..]));
         format!(
             "{base}<tspan class=\"sub\" dy=\"2.5\">{low}</tspan>\
              <tspan dy=\"-2.5\">\u{200b}{rest}</tspan>"
@@ -220,5 +221,6 @@ mod tests {
             "p<tspan class=\"sub\" dy=\"2.5\">p</tspan><tspan dy=\"-2.5\">\u{200b},</tspan>";
         assert_eq!(markup("p_p,"), comma);
         assert_eq!(markup("no_symbol"), "no_symbol");
+        assert_eq!(markup("h/p_p,"), format!("h/{comma}"));
     }
 }

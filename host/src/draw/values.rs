@@ -2,7 +2,7 @@
 //! on the floor or on the hopper, each with a line from its place on the silo.
 
 use super::chart::{greatest, CURVES};
-use super::layout::{Layout, CHART, COLUMNS, GUTTER, HOPPER_HEAD, TABLE};
+use super::layout::{Layout, CHART, GUTTER, HOPPER_HEAD, TABLE};
 use super::shown::{grouped, length, pressure};
 use super::svg::{Point, Svg};
 use crate::description::Description;
@@ -35,21 +35,22 @@ fn leader(svg: &mut Svg, from: Point, row: f64) {
 }
 
 fn head(svg: &mut Svg, report: &Report, layout: &Layout) {
-    let brim = layout.brim;
+    let (left, foot) = layout.table;
+    let columns = layout.columns();
     let words = [
         "At each strake's lower edge; p_he without the patch load p_p".to_string(),
         patch(report.silo),
     ];
     for (text, y) in words.iter().zip([50.0, 37.0]) {
-        svg.text("start small", (TABLE.0, brim - y), text);
+        svg.text("start small", (left, foot - y), text);
     }
     let mut names = vec!["strake".to_string(), "edge z".to_string()];
     names.extend(CURVES.iter().map(|curve| curve.name.to_string()));
     let mut units = vec![String::new(), "mm".to_string()];
     units.extend(CURVES.iter().map(|_| report.units.pressure().to_string()));
-    cells(svg, "end head", brim - 21.0, &COLUMNS, &names);
-    cells(svg, "end small", brim - 8.0, &COLUMNS[1..], &units[1..]);
-    svg.line("dimension", (TABLE.0, brim - 4.0), (TABLE.1, brim - 4.0));
+    cells(svg, "end head", foot - 21.0, &columns, &names);
+    cells(svg, "end small", foot - 8.0, &columns[1..], &units[1..]);
+    svg.line("dimension", (left, foot - 4.0), (left + TABLE.1 - TABLE.0, foot - 4.0));
 }
 
 /// The eccentricity that the patch load takes.
@@ -68,7 +69,9 @@ fn strakes(svg: &mut Svg, report: &Report, layout: &Layout, curves: &Loads) {
     let class = layout.cells(greatest(curves));
     for (i, ((_, edge), row)) in report.silo.edges().zip(&layout.strake_rows).enumerate() {
         let (in_silo, in_chart) = (layout.silo_y(edge as f64), layout.chart_y(edge as f64));
-        leader(svg, (wall, in_silo), *row);
+        if layout.is_beside() && layout.has_edge(report.silo, i) {
+            leader(svg, (wall, in_silo), *row);
+        }
         svg.line("leader", (CHART.0, in_chart), (CHART.1, in_chart));
         if layout.is_aligned() {
             svg.line("leader", (TABLE.1, *row), (CHART.0, in_chart));
@@ -78,7 +81,7 @@ fn strakes(svg: &mut Svg, report: &Report, layout: &Layout, curves: &Loads) {
             let show = |place: usize| pressure(report.units, numbers[place]);
             line.extend(CURVES.iter().map(|curve| show(curve.place)));
         }
-        cells(svg, class, row + BASE, &COLUMNS, &line);
+        cells(svg, class, row + BASE, &layout.columns(), &line);
     }
 }
 
@@ -89,7 +92,7 @@ fn last_row(layout: &Layout) -> f64 {
 fn floor(svg: &mut Svg, report: &Report, layout: &Layout) {
     let load = pressure(report.units, report.loads.floor());
     let text = format!("Flat floor, vertical load (5.13): {load} {}", report.units.pressure());
-    svg.text("start note", (TABLE.0, last_row(layout) + 24.0), &text);
+    svg.text("start note", (layout.table.0, last_row(layout) + 24.0), &text);
 }
 
 /// From the wall's foot, k = 4, down to the outlet.

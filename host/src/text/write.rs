@@ -3,10 +3,11 @@
 use super::depths;
 use crate::catalogue;
 use crate::description::{Description, Product, Section};
+use crate::discharge::Discharge;
 use crate::name::Name;
 use crate::number::hundredths;
 
-/// Lines that read as the same sheet.
+/// Lines that read as the same sheet; the first, of a silo that is calculated, says its kind.
 pub fn write(description: &Description) -> String {
     let mut lines: Vec<(Name, String)> = Vec::new();
     let length = |number: u32| format!("{number} mm");
@@ -30,7 +31,10 @@ pub fn write(description: &Description) -> String {
     }
     lines.push((Name::Strakes, runs(&description.strakes) + " mm"));
     lines.push((Name::Depths, depths::written(description)));
-    lines.into_iter().map(|(name, value)| format!("{} = {value}\n", name.word())).collect()
+    let kind = description.is_accepted().then(|| Discharge::of(description).shown());
+    let kind = kind.map(|kind| format!("# {kind}\n"));
+    let lines = lines.into_iter().map(|(name, value)| format!("{} = {value}\n", name.word()));
+    kind.into_iter().chain(lines).collect()
 }
 
 fn product_lines(product: &Product) -> [(Name, String); 4] {

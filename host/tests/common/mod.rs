@@ -39,6 +39,10 @@ const LINES: [(&str, &str); 11] = [
     ("depths", "0, 5000 mm"),
 ];
 
+/// Changes that put a flat floor in the hopper's place.
+pub const FLAT: [(&str, &str); 3] =
+    [("hopper height", "-"), ("hopper run", "-"), ("floor", "flat")];
+
 /// The silo with some lines exchanged; a new name goes to the end, and a value of `-` leaves its line out.
 pub fn text_with(changes: &[(&str, &str)]) -> String {
     let mut lines: Vec<(&str, &str)> = LINES.to_vec();

@@ -15,29 +15,31 @@ cast-quotient-up c = search needs
 
 mul-quotient-up : tie.Need-mul-quotient-up
 mul-quotient-up c =
-    let a = c .before .args in
-    let top : a .top ≤ 2 ^ 31 = omega arith in
+    let start = c .before .before in
+    let a = start .args in
+    let m = start .pre .0 in
+    let top : a .by .top ≤ 2 ^ 31 = omega (arith, m .small, m .most) in
     let filling : a .filling .0 ≤ 2 ^ 25 = omega arith in
     omega (arith, mul-le-mul top filling)
 
 quotient-up-requires : tie.Need-quotient-up-requires
-quotient-up-requires c κs = search needs
+quotient-up-requires c κs = c .before .before .pre .0 .proper
 
 -- the quotient and its range
-answer : (c : tie.After-quotient-up) → let a = c .before .before .args in
-    (c .quotient-up .result ≡ magnified-load (a .top ⊘ a .bottom) (a .filling .0)) × (c .quotient-up .result ≤ 2 ^ 26)
+answer : (c : tie.After-quotient-up) → let a = c .before .before .before .args in
+    (c .quotient-up .result ≡ magnified-load (a .by .top ⊘ a .by .bottom) (a .filling .0)) × (c .quotient-up .result ≤ 2 ^ 26)
 answer c =
-    let a = c .before .before .args in
-    let p = c .before .before .pre in
-    let e = c .quotient-up .ensures ∙ magnified-load-divided (a .top) (a .bottom) (a .filling .0) in
-    (e, omega (arith, e, magnified-load-range (a .top ⊘ a .bottom) (p .0) (a .filling .0) (p .2) (p .3)))
+    let a = c .before .before .before .args in
+    let p = c .before .before .before .pre in
+    let e = c .quotient-up .ensures ∙ magnified-load-divided (a .by .top) (a .by .bottom) (a .filling .0) in
+    (e, omega (arith, e, magnified-load-range (a .by .top ⊘ a .by .bottom) (p .0 .proper) (a .filling .0) (p .0 .most) (p .1)))
 
-cast-t7 : tie.Need-cast-t7
-cast-t7 c = omega (arith, answer c .1)
+cast-t6 : tie.Need-cast-t6
+cast-t6 c = omega (arith, answer c .1)
 
 returns : tie.Need-returns
 returns c = answer c
 
 pub magnified-spec : {M : Type 1} → statement M
 magnified-spec =
-    tie.close (tie.spec cast-quotient-up mul-quotient-up quotient-up-requires cast-t7 returns)
+    tie.close (tie.spec cast-quotient-up mul-quotient-up quotient-up-requires cast-t6 returns)

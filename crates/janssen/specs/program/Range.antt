@@ -17,7 +17,7 @@ pub record InRange (s : Section) (p : Product) : Type 0 where
   pub Ks-in : Within 20 100 (p .ratio)
   pub μ-in : Within 10 100 (p .friction)
 
--- a depth of a slender silo, mm; no wall is as high as 2^17 mm
+-- a depth less than ten widths down, mm; no wall is as high as 2^17 mm
 pub record InDepth (s : Section) (z : ℕ) : Type 0 where
-  pub slender : z < 10 * d-c s
+  pub below-ten : z < 10 * d-c s
   pub wall : z ≤ 2 ^ 17

@@ -3,17 +3,24 @@ use Prim.Native.Nat.{ℕ, _*_, _≤_}
 use mathlib.Core.Path.{_≡_}
 use mathlib.Core.List.{List, [], _∷_, map}
 use Rattle.janssen.specs.Section.{d-c}
-use Rattle.janssen.specs.program.Range.{InRange, InDepth}
+use Rattle.janssen.specs.program.Range.{Within, InRange, InDepth}
 use Rattle.janssen.specs.program.Pressure.{computed}
 use Rattle.janssen.specs.program.Prepare.{prepared-for}
+use Rattle.discharge.specs.program.Magnifier.{held}
 use Rattle.loads.specs.declared.Silo.{Silo}
 use Rattle.loads.specs.declared.Basis.{Basis}
 use Rattle.loads.specs.Load.{Load}
-use Rattle.loads.specs.Load.{load-depth, number}
+use Rattle.loads.specs.Load.{load-depth, C-h, C-w, number}
 use Rattle.loads.specs.Load.Load.{listed-depth, p-hf, p-wf, p-vf, P-w, p-he, p-we, p-p}
 
 abbrev pub basis-for : Silo → Basis
-basis-for c = record { silo = c; prepared = prepared-for (c .section) (c .product); shorter = d-c (c .section) }
+basis-for c = record {
+  silo = c;
+  prepared = prepared-for (c .section) (c .product);
+  shorter = d-c (c .section);
+  horizontal = held (C-h c);
+  friction = held (C-w c);
+}
 
 -- a depth at which loads are worked out
 abbrev pub Reached : Silo → ℕ → Type 0
@@ -22,7 +29,7 @@ Reached c depth = InDepth (c .section) (load-depth c depth)
 -- the silo of an accepted sheet
 pub record Fits (c : Silo) : Type 0 where
   pub range : InRange (c .section) (c .product)
-  pub factor-most : c .product .factor ≤ 200
+  pub factor-in : Within 100 200 (c .product .factor)
   pub eccentricity-most : 4 * c .eccentricity ≤ d-c (c .section)
   pub height-most : c .height ≤ 25000
   pub run-most : c .run ≤ 25000

@@ -1,4 +1,4 @@
--- Rules 1 to 5 first; where none of them refuses, rules 6 to 13.
+-- Rules 1 to 5 first; where none of them refuses, rules 6 to 12.
 use mathlib.Core.Path.{refl, sym, _∙_}
 use denote.Ref.{now}
 use Rattle.records.specs.Format.{layout-rules}

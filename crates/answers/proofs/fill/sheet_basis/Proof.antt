@@ -4,7 +4,7 @@ use mathlib.Core.Path.{_∙_}
 use borrow.Author.Needs.{needs}
 use Rattle.description.specs.program.Wall.{silo-read}
 use Rattle.sheet.proofs.Acceptance.{accepted}
-use Rattle.sheet.proofs.Described.{in-range}
+use Rattle.answers.proofs.Demand.{silo-fits}
 use Rattle.answers.proofs.fill.sheet_basis.Statement.{statement}
 use Rattle.answers.proofs.fill.sheet_basis.Tie as tie
 
@@ -19,7 +19,7 @@ unfolding silo-read
 basis-of-requires c κs =
     let start = c .before .before .before .before .before in
     let s = start .args .sheet .now in
-    rw (start .pre .1) (in-range s (accepted s (start .pre .0)))
+    simp (c .before .eccentricity .ensures, c .wall-height .ensures .0, start .pre .1) (silo-fits s (accepted s (start .pre .0)))
 
 returns : tie.Need-returns
 unfolding silo-read

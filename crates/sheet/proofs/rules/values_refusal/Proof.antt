@@ -26,9 +26,6 @@ add-h c = search needs
 height-met-requires : tie.Need-height-met-requires
 height-met-requires c κs = search needs
 
-slender-met-requires : tie.Need-slender-met-requires
-slender-met-requires c κs = search needs
-
 sides-met-requires : tie.Need-sides-met-requires
 sides-met-requires c κs = search needs
 
@@ -77,14 +74,10 @@ unless-requires-6 c κs = search needs
 unless-requires-7 : tie.Need-unless-requires-7
 unless-requires-7 c κs = search needs
 
-unless-requires-8 : tie.Need-unless-requires-8
-unless-requires-8 c κs = search needs
-
 returns : tie.Need-returns
 unfolding value-rules h-of
 returns c =
-    let at7 = c .before in
-    let at6 = at7 .before in
+    let at6 = c .before in
     let depths = at6 .before in
     let at5 = depths .before in
     let strakes = at5 .before in
@@ -99,16 +92,14 @@ returns c =
     let sent = product .before in
     let at1 = sent .before in
     let sides = at1 .before in
-    let slender = sides .before in
-    let high = slender .before in
+    let high = sides .before in
     let known = high .before in
     let wall = known .before in
     let bottom = wall .before in
     let width = bottom .before in
     let section = width .before in
     simp (
-      c .unless8 .ensures,
-      at7 .unless7 .ensures,
+      c .unless7 .ensures,
       at6 .unless6 .ensures,
       depths .depths-met .ensures,
       at5 .unless5 .ensures,
@@ -124,7 +115,6 @@ returns c =
       sent .read-product-sent .ensures,
       at1 .unless .ensures,
       sides .sides-met .ensures,
-      slender .slender-met .ensures,
       high .height-met .ensures,
       wall .wall-height .ensures .0,
       bottom .read-bottom .ensures .0,
@@ -143,7 +133,6 @@ values-refusal-spec =
     wall-height-requires
     add-h
     height-met-requires
-    slender-met-requires
     sides-met-requires
     unless-requires
     read-product-sent-requires
@@ -160,5 +149,4 @@ values-refusal-spec =
     depths-met-requires
     unless-requires-6
     unless-requires-7
-    unless-requires-8
     returns)
