@@ -2,7 +2,6 @@
 -- Assumes nothing.
 use Prim.Native.Nat.{ℕ}
 use mathlib.Core.Path.{_≡_, refl, sym, _∙_, subst}
-use mathlib.Core.Bool.{false≢true}
 use mathlib.Core.List.{List, [], _∷_}
 use native.Mathlib.Omega.{arith}
 use borrow.Author.Tests.{eq-eqb, ne-eqb}
@@ -11,7 +10,7 @@ use lib.ListN.{length}
 use Rattle.janssen.specs.program.Pressure.{computed}
 use Rattle.records.specs.Rules.{_unless_, first-unmet}
 use Rattle.records.specs.Format.{record-rules, records-rules, layout-rules}
-use Rattle.records.proofs.Chain.{stopped, skipped, among}
+use Rattle.records.proofs.Chain.{stopped, skipped, absent}
 use Rattle.sheet.specs.Refusal.{value-rules, sheet-rules, refusal-of}
 use Rattle.sheet.proofs.Acceptance.{sheet-numbered}
 use Rattle.answers.specs.Length.{length-due}
@@ -24,7 +23,7 @@ use Rattle.answers.proofs.Demand.{claim}
 -- 13 is no rule of the load call either
 pub loads-never-13 : (s : List ℕ) (n : ℕ) → first-unmet (loads-rules s n) ≡ 13 → ⊥
 unfolding loads-rules sheet-rules layout-rules records-rules record-rules value-rules
-loads-never-13 s n e = false≢true (among (loads-rules s n) 13 (omega arith) e)
+loads-never-13 s n = absent (loads-rules s n) 13 (omega arith) refl
 
 module _ (s lent : List ℕ) where
   -- any refusal leaves the list as it was

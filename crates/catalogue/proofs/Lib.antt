@@ -1,1 +1,2 @@
 pub mod ProductRecord
+pub mod Refusals

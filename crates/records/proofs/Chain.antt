@@ -4,12 +4,12 @@
 --     stopped        a refusal in the first part is the refusal of the whole
 --     apart          no refusal in the whole: none in each part
 --     tried          rules tried one after the other, with the refusal so far, give the first that is not met
---     among          a refusal is a rule's number
+--     absent         a number that no rule has is never the refusal
 -- A refusal is told from 0 by its number, so that the numbers have to be positive (`numbered`): a test that computes for every chain.
 use Prim.Native.Nat.{ℕ, zero, suc, _<_}
 use mathlib.Core.Bool.{Bool, true, false, cond, _&&_, _||_, false≢true}
 use mathlib.Core.List.{List, [], _∷_, _++_}
-use mathlib.Core.Path.{_≡_, refl}
+use mathlib.Core.Path.{_≡_, refl, sym, _∙_}
 use native.Mathlib.Omega.{arith}
 use borrow.Author.Tests.{eq-eqb}
 use lib.Dec.{eqb}
@@ -111,7 +111,10 @@ among-next : (m : Bool) (k n : ℕ) (l : List Rule) → (first-unmet l ≡ n →
 among-next true k n l rest h = either-right (eqb k n) (has l n) (rest h)
 among-next false k n l rest h = simp (eq-eqb k n h)
 
-pub among : (l : List Rule) (n : ℕ) → 0 < n → first-unmet l ≡ n → has l n ≡ true
+among : (l : List Rule) (n : ℕ) → 0 < n → first-unmet l ≡ n → has l n ≡ true
 unfolding first-unmet
 among [] n p h = absurd (omega arith)
 among (r ∷ l) n p h = among-next (r .met) (r .number) n l (among l n p) h
+
+pub absent : (l : List Rule) (n : ℕ) → 0 < n → has l n ≡ false → first-unmet l ≡ n → ⊥
+absent l n p h e = false≢true (sym h ∙ among l n p e)

@@ -1,7 +1,7 @@
 -- A sheet is not refused exactly when it is `Accepted`: no rule of the chain refuses when each is met, and each rule's test says the
 -- inequalities of `Accepted`.
 use Prim.Native.Nat.{ℕ, _*_}
-use mathlib.Core.Bool.{true, _&&_, _||_, false≢true}
+use mathlib.Core.Bool.{true, _&&_, _||_}
 use mathlib.Core.List.{List}
 use mathlib.Core.Logic.{_⊎_, inl, inr, ⊎-elim}
 use mathlib.Core.Path.{_≡_, refl, _∙_}
@@ -17,7 +17,7 @@ use Rattle.description.specs.declared.Bottom.{Bottom}
 use Rattle.records.specs.Rules.{within, first-unmet}
 use Rattle.records.specs.Format.{u32, record-rules, records-rules, layout-rules}
 use Rattle.records.proofs.Tests.{both-true, either-true, either-right, within-true, true-within}
-use Rattle.records.proofs.Chain.{numbered, met-at, met, apart, skipped, among}
+use Rattle.records.proofs.Chain.{numbered, met-at, met, apart, skipped, absent}
 use Rattle.records.proofs.Numbers.{numbers-length}
 use Rattle.description.specs.Silo.{section-of, product-sent, eccentricities-of, bottom-of, strakes-of, depths-of, depth-count, V-of, h-of}
 use Rattle.description.proofs.Walls.{strakes-length}
@@ -161,8 +161,8 @@ sheet-numbered s = refl
 -- 13 and 14 are no rules of the sheet: the length call never answers them
 pub never-13 : (s : List ℕ) → refusal-of s ≡ 13 → ⊥
 unfolding refusal-of sheet-rules layout-rules records-rules record-rules value-rules
-never-13 s e = false≢true (among (sheet-rules s) 13 (omega arith) e)
+never-13 s = absent (sheet-rules s) 13 (omega arith) refl
 
 pub never-14 : (s : List ℕ) → refusal-of s ≡ 14 → ⊥
 unfolding refusal-of sheet-rules layout-rules records-rules record-rules value-rules
-never-14 s e = false≢true (among (sheet-rules s) 14 (omega arith) e)
+never-14 s = absent (sheet-rules s) 14 (omega arith) refl
