@@ -1,4 +1,4 @@
-/* A sheet read and judged as documents 01 and 02 have it, its discharge factors, and the sheets that are measured. */
+/* A sheet read and judged as documents 01 and 02 have it, its discharge factors, and the silos whose sheets are measured. */
 #include "sheet.h"
 #include <stdbool.h>
 
@@ -158,7 +158,7 @@ struct silo squat(uint32_t depth_count, uint32_t strake_count) {
     return s;
 }
 
-static uint8_t *put(uint8_t *at, uint32_t n, int width) {
+uint8_t *put(uint8_t *at, uint32_t n, int width) {
     for (int i = 0; i < width; i++)
         *at++ = (uint8_t)(n >> 8 * i);
     return at;
@@ -172,13 +172,16 @@ static uint8_t *record(uint8_t *at, uint32_t kind, const uint32_t *numbers, uint
     return at;
 }
 
-size_t write_sheet(const struct silo *s, uint8_t *sheet) {
-    uint8_t *at = record(sheet, 1, &s->a, 1, 4);
+struct sheet sheet_of(const struct silo *s) {
+    struct sheet sheet = {.list = answers_length(s)};
+    bool circle = s->a == s->b;
+    uint8_t *at = record(sheet.bytes, circle ? 1 : 2, (const uint32_t[]){s->a, s->b}, circle ? 1 : 2, 4);
     at = put(put(at, 10, 2), 3, 2);
     at = put(put(put(put(at, s->weight, 4), s->ratio, 2), s->friction, 2), s->factor, 2);
     at = record(at, 4, (const uint32_t[]){s->e_i, s->e_o}, 2, 4);
     at = record(at, 5, (const uint32_t[]){s->hopper, s->run}, 2, 4);
     at = record(at, 6, s->strakes, s->strake_count, 2);
     at = record(at, 7, s->depths, s->depth_count, 4);
-    return (size_t)(at - sheet);
+    sheet.length = (size_t)(at - sheet.bytes);
+    return sheet;
 }

@@ -1,5 +1,5 @@
-/* What the measured programs share: a sheet's numbers, its reading with refusals 1 to 12, its discharge factors, and the sheets that are
- * measured. */
+/* What the measured programs share: a sheet's numbers, its reading with refusals 1 to 12, its discharge factors, and the silos whose sheets
+ * are measured. */
 #ifndef SHEET_H
 #define SHEET_H
 
@@ -38,14 +38,24 @@ struct factors {
 /* Document 01's for a slender silo, those of C-11 for a squat one. */
 struct factors factors_of(const struct silo *s);
 
-/* 6 m wide over a hopper of 3 m, with strakes of 1 m, at least eight, and that many depths down the wall. */
+/* 6 m wide over a hopper of 3 m, with strakes of 1 m, slender from six on, and that many depths down the wall. */
 struct silo tower(uint32_t depth_count, uint32_t strake_count);
 
 /* The same, 20 m wide: with 24 strakes squat and higher than wide. */
 struct silo squat(uint32_t depth_count, uint32_t strake_count);
 
-/* Writes the sheet of a circular silo, at most MAX_SHEET bytes, and tells its length. */
-size_t write_sheet(const struct silo *s, uint8_t *sheet);
+/* A sheet, which may be a byte too long, the list's length and the answer due. */
+struct sheet {
+    uint8_t bytes[MAX_SHEET + 1];
+    size_t length, list;
+    uint32_t answer;
+};
+
+/* The sheet of a silo that is accepted. */
+struct sheet sheet_of(const struct silo *s);
+
+/* Writes a number of that many bytes and tells the place after it. */
+uint8_t *put(uint8_t *at, uint32_t n, int width);
 
 /* The load call as silo.h declares it, in double arithmetic with libm; its roundings keep no promise. */
 uint32_t plain_loads(const uint8_t *sheet, size_t sheet_len, uint32_t *answers, size_t answers_len);

@@ -1,16 +1,17 @@
--- Going down the wall strake by strake: after k strakes the state is at the sum of the first k heights, which lies above the wall's foot.
+-- Going down the wall strake by strake: after k strakes the state is at the sum of the first k heights (`edge-after`), which does not lie
+-- below the wall's foot.
 -- Assumes nothing.
-use Prim.Native.Nat.{ℕ, suc, _+_, _≤_, _<_}
-use mathlib.Core.Path.{_≡_, sym}
-use native.Mathlib.Numerals.{add-one}
+use Prim.Native.Nat.{ℕ, suc, _≤_, _<_}
+use mathlib.Core.List.{List}
+use mathlib.Core.Path.{_≡_, ap, sym, _∙_}
 use native.Mathlib.Omega.{arith}
 use lib.ListN.{length, getD, take}
 use lib.Seq.{take-take}
-use Rattle.description.specs.declared.Wall.{Wall}
 use Rattle.description.specs.declared.WallState.{WallState}
 use Rattle.description.specs.Silo.{sum}
-use Rattle.description.specs.program.Wall.{wall-lowered}
-use Rattle.description.proofs.Sums.{sum-next, sum-under}
+use Rattle.description.specs.program.Wall.{wall-lowered, wall-after}
+use Rattle.description.proofs.Sums.{sum-under}
+use Rattle.description.proofs.Walls.{edge-after}
 use Rattle.loads.specs.declared.Silo.{Silo}
 use Rattle.loads.specs.program.Basis.{Reached}
 use Rattle.loads.proofs.LoadLaws.{load-depth-rises}
@@ -22,21 +23,15 @@ above-foot c {depth} {foot} d h =
       wall = omega (arith, d .wall, load-depth-rises c depth foot h);
     }
 
--- the state after k strakes
-abbrev pub passed : Wall → ℕ → WallState
-passed w k = record { next = k; edge = sum (take k (w .heights)) }
+-- the strake k of the first heights of a wall
+module _ (heights : List ℕ) (count k : ℕ) (h : k < count) (fits : count ≤ length heights) where
+  -- after it, the edge is the sum of the strakes down to it
+  pub next-edge : wall-after heights (suc k) .edge ≡ sum (take (suc k) (take count heights))
+  next-edge = edge-after heights (suc k) (omega (arith, h, fits)) ∙ ap sum (sym (take-take (suc k) count heights h))
 
-module _ (w : Wall) (k : ℕ) (h : k < w .count) (c : w .count ≤ length (w .heights)) where
-  pub next-edge : sum (take (k + 1) (w .heights)) ≡ sum (take k (w .heights)) + getD (w .heights) k 0
-  next-edge = rw add-one (sum-next (w .heights) k (omega arith))
+  pub next-inside : wall-after heights (suc k) .edge ≤ sum (take count heights)
+  next-inside = omega (arith, edge-after heights (suc k) (omega (arith, h, fits)), sum-under heights (suc k) count h)
 
-  pub next-inside : sum (take (k + 1) (w .heights)) ≤ sum (take (w .count) (w .heights))
-  next-inside = sum-under (w .heights) (k + 1) (w .count) (omega arith)
-
-  pub passed-next : wall-lowered w (passed w k) ≡ passed w (k + 1)
-  unfolding wall-lowered
-  passed-next = λ i. record { next = k + 1; edge = sym next-edge i }
-
-  -- the edge among the strakes alone
-  pub among-strakes : sum (take (suc k) (take (w .count) (w .heights))) ≡ sum (take (k + 1) (w .heights))
-  among-strakes = rw (add-one, take-take (suc k) (w .count) (w .heights) h)
+  pub next-state : {t : WallState} → t ≡ wall-after heights k → wall-lowered (getD heights k 0) t ≡ wall-after heights (suc k)
+  unfolding wall-after
+  next-state e = ap (wall-lowered (getD heights k 0)) e

@@ -1,23 +1,25 @@
 -- The three parts stored one after the other are the answer list; and what each part asks holds of an accepted sheet, of the wall read
 -- from it and of the basis made from it.
 -- Assumes nothing.
-use Prim.Native.Nat.{ℕ, _+_, _-_, _*_, _≤_, _<_}
-use mathlib.Core.Path.{_≡_, refl, ap, sym, _∙_}
+use Prim.Native.Nat.{ℕ, _+_, _*_, _≤_, _<_}
+use mathlib.Core.Path.{_≡_, refl, ap, sym, _∙_, subst}
 use mathlib.Core.List.{List, _++_}
 use native.Mathlib.Omega.{arith}
-use lib.ListN.{length, take, length-append, length-replicate, replicate}
-use lib.Seq.{sets, take-at}
+use lib.ListN.{length, take}
+use lib.Seq.{sets}
 use Rattle.records.specs.Format.{u32, payload}
 use Rattle.records.proofs.Numbers.{numbers-at}
-use Rattle.description.specs.Silo.{strakes-of, strake-count, depths-of, depth-count, sum, V-of}
-use Rattle.description.specs.program.Wall.{wall-of}
-use Rattle.description.proofs.Walls.{strakes-length}
+use Rattle.description.specs.Silo.{product-of, strakes-of, strake-count, depths-of, depth-count, sum, V-of}
+use Rattle.description.specs.declared.Described.{Described}
+use Rattle.description.specs.program.Described.{wall-of, described-of}
+use Rattle.description.proofs.Walls.{wall-counted, wall-fits}
 use Rattle.sheet.specs.Refusal.{refusal-of}
 use Rattle.sheet.proofs.Acceptance.{accepted}
-use Rattle.loads.specs.program.Basis.{Reached, Sound}
+use Rattle.loads.specs.program.Basis.{basis-for, Reached, Fits, Sound}
+use Rattle.loads.specs.declared.Basis.{Basis}
 use Rattle.answers.specs.Length.{length-due}
 use Rattle.answers.specs.Answers.{silo-of, depth}
-use Rattle.answers.specs.program.Fill.{basis-of, depths-part, bottom-part, strakes-part, answers}
+use Rattle.answers.specs.program.Fill.{silo-in, basis-of, depths-part, bottom-part, strakes-part, answers}
 use Rattle.answers.proofs.Places.{length-depths-part, length-bottom-part, length-answers}
 use Rattle.records.proofs.Stores.{sets-whole}
 use Rattle.answers.proofs.Stores.{sets-append}
@@ -42,6 +44,18 @@ module _ (s : List ℕ) where
       ∙ sets-append (sets l 0 (depths-part s)) (0 + length (depths-part s)) (bottom-part s) (strakes-part s)
       ∙ rw (e₃, e₂, e₁, below, at) refl)
 
+  -- the silo described is the sheet's
+  silo-described : silo-in (described-of s) ≡ silo-of s
+  unfolding product-of wall-of
+  silo-described = refl
+
+  pub basis-described : (d : Described) (b : Basis) → d ≡ described-of s → b ≡ basis-for (silo-in d) → b ≡ basis-of s
+  basis-described d b e f = f ∙ ap (λ (d : Described). basis-for (silo-in d)) e ∙ ap basis-for silo-described
+
+  pub fits-described : (d : Described) → d ≡ described-of s → refusal-of s ≡ 0 → Fits (silo-in d)
+  fits-described d e h =
+      subst (λ (d : Described). Fits (silo-in d)) (sym e) (subst Fits (sym silo-described) (silo-fits s (accepted s h)))
+
   -- the depth i is read at its place
   pub depth-read : (i at : ℕ) → i < depth-count s → at ≡ payload s 5 + 4 * i → u32 s at ≡ depth s i
   unfolding depths-of
@@ -54,15 +68,21 @@ module _ (s : List ℕ) where
     pub strakes-few : strake-count s ≤ 24
     strakes-few = accepted s h .layout .strakes-few
 
-    -- the heights are the strakes, and zeros up to 24
-    pub wall-fits : (wall-of s .count ≡ strake-count s) × (length (wall-of s .heights) ≡ 24) × (take (wall-of s .count) (wall-of s .heights) ≡ strakes-of s)
-    unfolding wall-of
-    wall-fits = (
-      refl,
-      simp (length-append, length-replicate) (omega (arith, strakes-length s, strakes-few)),
-      take-at (strakes-of s) (replicate (24 - strake-count s) 0) (strake-count s) (strakes-length s),
-    )
+    -- the depths begin inside the sheet, and are few
+    pub depths-near : (payload s 5 ≤ 1024) × (depth-count s ≤ 200)
+    unfolding payload
+    depths-near =
+        let l = accepted s h .layout in
+        (omega (arith, l .present 5 (omega arith), l .size), l .depths-few)
 
-    pub wall-reached : Reached (silo-of s) (sum (take (wall-of s .count) (wall-of s .heights)))
+    -- the wall of the silo described: its places, its strakes and its foot
+    pub described-wall : (d : Described) → d ≡ described-of s
+        → (d .wall .count ≡ strake-count s) × (length (d .wall .heights) ≡ 24) × (take (d .wall .count) (d .wall .heights) ≡ strakes-of s)
+    described-wall d e =
+        subst
+        (λ (d : Described). (d .wall .count ≡ strake-count s) × (length (d .wall .heights) ≡ 24) × (take (d .wall .count) (d .wall .heights) ≡ strakes-of s))
+        (sym e) (wall-counted s, wall-fits s strakes-few .0, wall-fits s strakes-few .1)
+
+    pub wall-reached : Reached (silo-of s) (sum (strakes-of s))
     unfolding V-of
-    wall-reached = rw (wall-fits .2) (reached s (accepted s h) (V-of s) (omega arith))
+    wall-reached = reached s (accepted s h) (V-of s) (omega arith)

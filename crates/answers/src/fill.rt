@@ -6,15 +6,16 @@ ghost use lib.Seq.{sets};
 ghost use Rattle.exponential.specs.program.Table.{table};
 ghost use Rattle.janssen.specs.program.Pressure.{computed};
 ghost use Rattle.description.specs.Silo.{depth-count, sum};
-ghost use Rattle.description.specs.program.Wall.{silo-read};
+ghost use Rattle.description.specs.program.Described.{depths-in, described-of};
 ghost use Rattle.sheet.specs.Refusal.{refusal-of};
 ghost use Rattle.answers.specs.Length.{length-due};
 ghost use Rattle.loads.specs.Load.{bottom-numbers};
-ghost use Rattle.loads.specs.program.Basis.{Reached, Sound};
-ghost use Rattle.answers.specs.program.Fill.{basis-of, strake-numbers, depths-part, answers};
-use description::Wall;
+ghost use Rattle.loads.specs.program.Basis.{basis-for, Reached, Fits, Sound};
+ghost use Rattle.answers.specs.program.Fill.{silo-in, basis-of, strake-numbers, depths-part, answers};
+use description::Depths;
+use description::Described;
 use description::WallState;
-use description::values;
+use description::values::product_read;
 use loads::Basis;
 use loads::Silo;
 use records::bytes::four_bytes;
@@ -32,12 +33,12 @@ fn store(list: &mut [u32], at: usize, numbers: &[u32])
 }
 
 // Eight numbers for each depth.
-fn fill_depths(entries: &[u64; 3393], sheet: &[u8], basis: Basis, list: &mut [u32])
-    requires { ⌜ (now entries ≡ table) × (refusal-of (now sheet) ≡ 0) × (basis ≡ basis-of (now sheet)) × (8 * depth-count (now sheet) ≤ length (now list)) ⌝ }
+fn fill_depths(entries: &[u64; 3393], sheet: &[u8], depths: Depths, basis: Basis, list: &mut [u32])
+    requires { ⌜ (now entries ≡ table) × (refusal-of (now sheet) ≡ 0) × (depths ≡ depths-in (now sheet)) × (basis ≡ basis-of (now sheet)) × (8 * depth-count (now sheet) ≤ length (now list)) ⌝ }
     ensures { λ _. ⌜ now (list .exit) ≡ sets (now (list .entry)) 0 (depths-part (now (sheet .entry))) ⌝ }
 {
-    let count = values::depth_count(sheet);
-    let mut at = values::payload_place(sheet, 5);
+    let count = depths.count;
+    let mut at = depths.start;
     let mut i = 0;
     while i < count {
         let numbers = loads::depth_numbers(entries, basis, four_bytes(sheet, at));
@@ -47,18 +48,23 @@ fn fill_depths(entries: &[u64; 3393], sheet: &[u8], basis: Basis, list: &mut [u3
     }
 }
 
-// One number for each strake, from the place `at` on.
-fn fill_strakes(entries: &[u64; 3393], basis: Basis, wall: Wall, list: &mut [u32], at: usize)
-    requires { ⌜ (now entries ≡ table) × Sound basis × (wall .count ≤ 24) × (length (wall .heights) ≡ 24) × Reached (basis .silo) (sum (take (wall .count) (wall .heights))) × (at + wall .count ≤ length (now list)) ⌝ }
-    ensures { λ _. ⌜ now (list .exit) ≡ sets (now (list .entry)) at (strake-numbers (basis .silo) (take (wall .count) (wall .heights))) ⌝ }
+// One number for each strake of the first heights, at its lower edge; from the place `at` on.
+fn fill_strakes(
+    entries: &[u64; 3393],
+    basis: Basis,
+    heights: &[u64; 24],
+    count: usize,
+    list: &mut [u32],
+    at: usize,
+)
+    requires { ⌜ (now entries ≡ table) × Sound basis × (count ≤ 24) × (length (now heights) ≡ 24) × Reached (basis .silo) (sum (take count (now heights))) × (at + count ≤ length (now list)) ⌝ }
+    ensures { λ _. ⌜ now (list .exit) ≡ sets (now (list .entry)) at (strake-numbers (basis .silo) (take count (now (heights .entry)))) ⌝ }
 {
-    let count = wall.count;
     let mut state = WallState::top();
-    let mut k = 0;
-    while k < count {
-        state = state.lowered(wall);
+    while state.passed < count {
+        let k = state.passed;
+        state = state.lowered(heights[k]);
         list[at + k] = loads::strake_number(entries, basis, state.edge);
-        k += 1;
     }
 }
 
@@ -71,38 +77,52 @@ fn fill_bottom(entries: &[u64; 3393], basis: Basis, list: &mut [u32], at: usize)
     store(list, at, &numbers);
 }
 
-// What is worked out once for the silo that a sheet describes.
-fn sheet_basis(sheet: &[u8], described: description::Described) -> Basis
-    requires { ⌜ (refusal-of (now sheet) ≡ 0) × (described ≡ silo-read (now sheet)) ⌝ }
-    ensures { λ r. ⌜ r ≡ basis-of (now (sheet .entry)) ⌝ }
+// What is worked out once for the silo described.
+fn described_basis(described: Described) -> Basis
+    requires { ⌜ Fits (silo-in described) ⌝ }
+    ensures { λ r. ⌜ r ≡ basis-for (silo-in described) ⌝ }
 {
     let section = described.section;
-    let product = described.product;
+    let sent = described.product;
+    let product = product_read(sent);
     let eccentricities = described.eccentricities;
     let eccentricity = discharge::eccentricity(eccentricities.inlet, eccentricities.outlet);
-    let foot = values::wall_height(sheet);
     let silo = Silo {
         section,
         product,
         eccentricity,
         height: described.bottom.height,
         run: described.bottom.run,
-        foot,
+        foot: described.wall.foot,
     };
     loads::basis_of(silo)
 }
 
-// The whole list, of the length due.
-pub fn fill(sheet: &[u8], list: &mut [u32])
-    requires { ⌜ (refusal-of (now sheet) ≡ 0) × (length (now list) ≡ length-due (now sheet)) ⌝ }
+// The whole list, of the length due, by the table that is lent.
+fn fill_by(entries: &[u64; 3393], sheet: &[u8], described: Described, list: &mut [u32])
+    requires { ⌜ (now entries ≡ table) × (refusal-of (now sheet) ≡ 0) × (described ≡ described-of (now sheet)) × (length (now list) ≡ length-due (now sheet)) ⌝ }
     ensures { λ _. ⌜ now (list .exit) ≡ answers (now (sheet .entry)) ⌝ }
 {
-    let entries = exponential::table::entries();
-    let described = description::read_silo(sheet);
-    let basis = sheet_basis(sheet, described);
-    fill_depths(&entries, sheet, basis, list);
-    let at = 8 * values::depth_count(sheet);
-    fill_bottom(&entries, basis, list, at);
-    let wall = described.wall;
-    fill_strakes(&entries, basis, wall, list, at + 10);
+    let basis = described_basis(described);
+    let depths = described.depths;
+    fill_depths(entries, sheet, depths, basis, list);
+    let at = 8 * depths.count;
+    fill_bottom(entries, basis, list, at);
+    fill_strakes(
+        entries,
+        basis,
+        &described.wall.heights,
+        described.wall.count,
+        list,
+        at + 10,
+    );
+}
+
+// The whole list, of the length due.
+pub fn fill(sheet: &[u8], described: Described, list: &mut [u32])
+    requires { ⌜ (refusal-of (now sheet) ≡ 0) × (described ≡ described-of (now sheet)) × (length (now list) ≡ length-due (now sheet)) ⌝ }
+    ensures { λ _. ⌜ now (list .exit) ≡ answers (now (sheet .entry)) ⌝ }
+{
+    let entries = exponential::table::ENTRIES;
+    fill_by(&entries, sheet, described, list);
 }

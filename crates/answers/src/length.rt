@@ -1,8 +1,8 @@
 // The length call: how many numbers the answer list of a sheet has.
 ghost use mathlib.Core.Path.{_≡_};
-ghost use Prim.Native.Nat.{_<_};
-ghost use Rattle.answers.specs.Length.{length-due, answers-length, answers-length-number};
-use description::values;
+ghost use Prim.Native.Nat.{_<_, _≤_};
+ghost use Rattle.answers.specs.Length.{answers-length, answers-length-number};
+ghost use Rattle.answers.specs.Place.{strake-place};
 
 // What the length call answers: the length due in u32 numbers, or the refusal's number.
 pub enum AnswersLength {
@@ -10,22 +10,30 @@ pub enum AnswersLength {
     Refused(u32),
 }
 
-// How many numbers the answer list of a sheet has.
-pub fn length_due(sheet: &[u8]) -> usize
-    ensures { λ r. ⌜ (r ≡ length-due (now (sheet .entry))) × (r < 200000) ⌝ }
+// How many numbers the answer list of so many depths and strakes has.
+pub fn length_due(depths: usize, strakes: usize) -> usize
+    requires { ⌜ (depths ≤ 1024) × (strakes ≤ 24) ⌝ }
+    ensures { λ r. ⌜ (r ≡ strake-place depths strakes) × (r < 10000) ⌝ }
 {
-    8 * values::depth_count(sheet) + 10 + values::strakes(sheet)
+    8 * depths + 10 + strakes
 }
 
 // The length call: the length that the answer list of a sheet must have, or the refusal.
 pub fn answers_length(sheet: &[u8]) -> AnswersLength
     ensures { λ r. ⌜ r ≡ answers-length (now (sheet .entry)) ⌝ }
 {
-    let refused = sheet::refusal(sheet);
+    let mut places = [0usize; 7];
+    let refused = records::layout::find_records(sheet, &mut places);
     if refused != 0 {
         return AnswersLength::Refused(refused);
     }
-    AnswersLength::Due(length_due(sheet) as u32)
+    let judged = sheet::judge(sheet, &places);
+    if judged.refused != 0 {
+        return AnswersLength::Refused(judged.refused);
+    }
+    AnswersLength::Due(
+        length_due(judged.described.depths.count, judged.described.wall.count) as u32,
+    )
 }
 
 impl AnswersLength {

@@ -9,13 +9,19 @@ pub mod length; // the call that tells its length
 pub fn loads(sheet: &[u8], answers: &mut [u32]) -> u32
     ensures { λ r. ⌜ Promise computed (now (sheet .entry)) (now (answers .entry)) r (now (answers .exit)) ⌝ }
 {
-    let refused = sheet::refusal(sheet);
+    let mut places = [0usize; 7];
+    let refused = records::layout::find_records(sheet, &mut places);
     if refused != 0 {
         return refused;
     }
-    if answers.len() != length::length_due(sheet) {
+    let judged = sheet::judge(sheet, &places);
+    if judged.refused != 0 {
+        return judged.refused;
+    }
+    let described = judged.described;
+    if answers.len() != length::length_due(described.depths.count, described.wall.count) {
         return 14;
     }
-    fill::fill(sheet, answers);
+    fill::fill(sheet, described, answers);
     0
 }

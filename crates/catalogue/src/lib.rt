@@ -5,7 +5,6 @@ ghost use lib.ListN.{length, set};
 ghost use Rattle.records.specs.Rules.{first-unmet};
 ghost use Rattle.catalogue.specs.Table.{row-of, product-for, record-of, catalogue-rules, catalogue-after};
 use janssen::Product;
-use records::rules::unless;
 
 // A row of the table.
 pub struct Material {
@@ -148,10 +147,11 @@ fn write_record(buffer: &mut [u8], p: Product)
 pub fn catalogue(row: u32, wall: u32, buffer: &mut [u8]) -> u32
     ensures { λ r. ⌜ (r ≡ first-unmet (catalogue-rules row wall (length (now (buffer .entry))))) × (now (buffer .exit) ≡ catalogue-after row wall (now (buffer .entry))) ⌝ }
 {
-    let refused = unless(0, 15, (row <= 9) & (wall <= 1));
-    let refused = unless(refused, 16, buffer.len() == 14);
-    if refused != 0 {
-        return refused;
+    if !((row <= 9) & (wall <= 1)) {
+        return 15;
+    }
+    if buffer.len() != 14 {
+        return 16;
     }
     write_record(buffer, product_on(table_row(row as usize), wall));
     0

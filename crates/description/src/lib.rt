@@ -1,9 +1,11 @@
 // The silo that a sheet describes: the values of its records. Document 01, "Sheet".
 ghost use mathlib.Core.Path.{_≡_};
 ghost use Prim.Native.Nat.{_+_, _<_, _≤_};
-ghost use lib.ListN.{getD};
+ghost use lib.ListN.{length};
+ghost use Rattle.records.specs.program.Reader.{Located};
 ghost use Rattle.description.specs.Silo.{strake-count};
-ghost use Rattle.description.specs.program.Wall.{silo-read, wall-lowered, wall-top};
+ghost use Rattle.description.specs.program.Described.{described-of, Sized};
+ghost use Rattle.description.specs.program.Wall.{wall-lowered, wall-top};
 use janssen::Product;
 use janssen::Section;
 
@@ -25,34 +27,48 @@ pub struct Bottom {
 pub struct Wall {
     pub heights: [u64; 24],
     pub count: usize,
+    // V, their sum: the wall's foot, mm below the brim
+    pub foot: u64,
 }
 
-// The wall passed so far, going down: the next strake, and the lower edge of the last, mm below the brim.
+// The wall passed so far, going down: how many strakes, and the lower edge of the last, mm below the brim.
 pub struct WallState {
-    pub next: usize,
+    pub passed: usize,
     pub edge: u64,
 }
 
-// What a sheet describes.
+// The listed depths: where they begin in the sheet, and how many they are.
+pub struct Depths {
+    pub start: usize,
+    pub count: usize,
+}
+
+// What a sheet describes, each value read once; the product as sent.
 pub struct Described {
     pub section: Section,
     pub product: Product,
     pub eccentricities: Eccentricities,
     pub bottom: Bottom,
     pub wall: Wall,
+    pub depths: Depths,
 }
 
-// The silo that a sheet with at most 24 strakes describes.
-pub fn read_silo(sheet: &[u8]) -> Described
-    requires { ⌜ strake-count (now sheet) ≤ 24 ⌝ }
-    ensures { λ r. ⌜ r ≡ silo-read (now (sheet .entry)) ⌝ }
+// The silo that a sheet describes whose records begin at these places.
+pub fn describe(sheet: &[u8], places: &[usize; 7]) -> Described
+    requires { ⌜ Located (now sheet) (now places) × (length (now sheet) ≤ 1024) × (strake-count (now sheet) ≤ 24) ⌝ }
+    ensures { λ r. ⌜ (r ≡ described-of (now (sheet .entry))) × Sized r ⌝ }
 {
+    let last = places[5];
     Described {
-        section: values::read_section(sheet),
-        product: values::read_product(sheet),
-        eccentricities: values::read_eccentricities(sheet),
-        bottom: values::read_bottom(sheet),
-        wall: values::read_wall(sheet),
+        section: values::read_section(sheet, places[0]),
+        product: values::read_product(sheet, places[1]),
+        eccentricities: values::read_eccentricities(sheet, places[2]),
+        bottom: values::read_bottom(sheet, places[3]),
+        wall: values::read_wall(sheet, places[4], last),
+        depths: Depths {
+            start: last + 4,
+            count: values::payload_bytes(last, places[6]) / 4,
+        },
     }
 }
 
@@ -61,18 +77,17 @@ impl WallState {
     pub fn top() -> Self
         ensures { λ r. ⌜ r ≡ wall-top ⌝ }
     {
-        Self { next: 0, edge: 0 }
+        Self { passed: 0, edge: 0 }
     }
 
-    // The state after the next strake, with its lower edge.
-    pub fn lowered(self, wall: Wall) -> Self
-        requires { ⌜ (self .next < 24) × (self .edge + getD (wall .heights) (self .next) 0 < 4294967296) ⌝ }
-        ensures { λ r. ⌜ r ≡ wall-lowered wall self ⌝ }
+    // The state after the next strake, of this height, with its lower edge.
+    pub fn lowered(self, height: u64) -> Self
+        requires { ⌜ (self .passed < 24) × (self .edge + height < 4294967296) ⌝ }
+        ensures { λ r. ⌜ r ≡ wall-lowered height self ⌝ }
     {
-        let next = self.next;
         Self {
-            next: next + 1,
-            edge: self.edge + wall.heights[next],
+            passed: self.passed + 1,
+            edge: self.edge + height,
         }
     }
 }

@@ -1,11 +1,11 @@
-// The values that the records hold, read in place; any slice of bytes has them.
+// The values that the records hold, read in place, each from the record that begins at `at`; `end` is where it ends.
 ghost use mathlib.Core.Path.{_≡_};
-ghost use Prim.Native.Nat.{_<_, _≤_};
+ghost use Prim.Native.Nat.{_+_, _-_, _<_, _≤_};
 ghost use Rattle.janssen.specs.Section.{side-a, side-b};
-ghost use Rattle.records.specs.Format.{payload, payload-length};
-ghost use Rattle.description.specs.Silo.{section-of, product-sent, factor-read, product-of, eccentricities-of, bottom-of, strake-count, depth-count, V-of};
+ghost use Rattle.records.specs.Format.{place};
+ghost use Rattle.description.specs.Silo.{section-of, product-sent, factor-read, eccentricities-of, bottom-of, strake-count};
+ghost use Rattle.description.specs.program.Described.{wall-of, product-read};
 ghost use Rattle.description.specs.program.Pair.{PairAt};
-ghost use Rattle.description.specs.program.Wall.{wall-of};
 use crate::Bottom;
 use crate::Eccentricities;
 use crate::Wall;
@@ -13,22 +13,59 @@ use janssen::Product;
 use janssen::Section;
 use records::bytes::four_bytes;
 use records::bytes::two_bytes;
-use records::reader::read_record;
 
-// Where the payload of record k begins.
-pub fn payload_place(sheet: &[u8], k: usize) -> usize
-    requires { ⌜ k < 6 ⌝ }
-    ensures { λ r. ⌜ (r ≡ payload (now (sheet .entry)) k) × (r < 500000) ⌝ }
+// The bytes in the payload of the record from `at` to `end`.
+pub fn payload_bytes(at: usize, end: usize) -> usize
+    requires { ⌜ at + 4 ≤ end ⌝ }
+    ensures { λ r. ⌜ r ≡ end - at - 4 ⌝ }
 {
-    read_record(sheet, k).start
+    end - at - 4
 }
 
-// The bytes in the payload of record k.
-pub fn payload_bytes(sheet: &[u8], k: usize) -> u64
-    requires { ⌜ k < 6 ⌝ }
-    ensures { λ r. ⌜ (r ≡ payload-length (now (sheet .entry)) k) × (r < 65536) ⌝ }
+pub fn read_section(sheet: &[u8], at: usize) -> Section
+    requires { ⌜ (at ≡ place (now sheet) 0) × (at ≤ 1024) ⌝ }
+    ensures { λ r. ⌜ (r ≡ section-of (now (sheet .entry))) × (side-a r < 4294967296) × (side-b r < 4294967296) ⌝ }
 {
-    read_record(sheet, k).length
+    let start = at + 4;
+    let a = four_bytes(sheet, start);
+    if two_bytes(sheet, at + 2) == 1 {
+        Section::Circle(a)
+    } else {
+        Section::Rectangle(a, four_bytes(sheet, start + 4))
+    }
+}
+
+// γ, Ks, μ and C0 as sent.
+pub fn read_product(sheet: &[u8], at: usize) -> Product
+    requires { ⌜ (at ≡ place (now sheet) 1) × (at ≤ 1024) ⌝ }
+    ensures { λ r. ⌜ r ≡ product-sent (now (sheet .entry)) ⌝ }
+{
+    let start = at + 4;
+    Product {
+        weight: four_bytes(sheet, start),
+        ratio: two_bytes(sheet, start + 4),
+        friction: two_bytes(sheet, start + 6),
+        factor: two_bytes(sheet, start + 8),
+    }
+}
+
+// A factor C0 of 0 is read as 135 hundredths.
+fn factor_read(sent: u64) -> u64
+    ensures { λ r. ⌜ r ≡ factor-read sent ⌝ }
+{
+    if sent == 0 { 135 } else { sent }
+}
+
+// The product as its loads see it.
+pub fn product_read(sent: Product) -> Product
+    ensures { λ r. ⌜ r ≡ product-read sent ⌝ }
+{
+    Product {
+        weight: sent.weight,
+        ratio: sent.ratio,
+        friction: sent.friction,
+        factor: factor_read(sent.factor),
+    }
 }
 
 // Two numbers of four bytes.
@@ -37,123 +74,59 @@ struct Pair {
     second: u64,
 }
 
-// The two numbers with which the payload of record k begins.
-fn read_pair(sheet: &[u8], k: usize) -> Pair
-    requires { ⌜ k < 6 ⌝ }
-    ensures { λ r. ⌜ PairAt (now (sheet .entry)) (payload (now (sheet .entry)) k) r ⌝ }
+fn read_pair(sheet: &[u8], at: usize) -> Pair
+    requires { ⌜ at ≤ 1024 ⌝ }
+    ensures { λ r. ⌜ PairAt (now (sheet .entry)) at r ⌝ }
 {
-    let at = payload_place(sheet, k);
+    let start = at + 4;
     Pair {
-        first: four_bytes(sheet, at),
-        second: four_bytes(sheet, at + 4),
+        first: four_bytes(sheet, start),
+        second: four_bytes(sheet, start + 4),
     }
 }
 
-pub fn read_section(sheet: &[u8]) -> Section
-    ensures { λ r. ⌜ (r ≡ section-of (now (sheet .entry))) × (side-a r < 4294967296) × (side-b r < 4294967296) ⌝ }
-{
-    let found = read_record(sheet, 0);
-    let at = found.start;
-    let a = four_bytes(sheet, at);
-    if found.kind == 1 {
-        Section::Circle(a)
-    } else {
-        Section::Rectangle(a, four_bytes(sheet, at + 4))
-    }
-}
-
-pub fn read_product_sent(sheet: &[u8]) -> Product
-    ensures { λ r. ⌜ r ≡ product-sent (now (sheet .entry)) ⌝ }
-{
-    let at = payload_place(sheet, 1);
-    Product {
-        weight: four_bytes(sheet, at),
-        ratio: two_bytes(sheet, at + 4),
-        friction: two_bytes(sheet, at + 6),
-        factor: two_bytes(sheet, at + 8),
-    }
-}
-
-// A factor C0 of 0 is read as 135 hundredths.
-fn read_factor(sent: u64) -> u64
-    ensures { λ r. ⌜ r ≡ factor-read sent ⌝ }
-{
-    if sent == 0 { 135 } else { sent }
-}
-
-pub fn read_product(sheet: &[u8]) -> Product
-    ensures { λ r. ⌜ r ≡ product-of (now (sheet .entry)) ⌝ }
-{
-    let sent = read_product_sent(sheet);
-    Product {
-        weight: sent.weight,
-        ratio: sent.ratio,
-        friction: sent.friction,
-        factor: read_factor(sent.factor),
-    }
-}
-
-pub fn read_eccentricities(sheet: &[u8]) -> Eccentricities
+pub fn read_eccentricities(sheet: &[u8], at: usize) -> Eccentricities
+    requires { ⌜ (at ≡ place (now sheet) 2) × (at ≤ 1024) ⌝ }
     ensures { λ r. ⌜ (r ≡ eccentricities-of (now (sheet .entry))) × (r .inlet < 4294967296) × (r .outlet < 4294967296) ⌝ }
 {
-    let read = read_pair(sheet, 2);
+    let read = read_pair(sheet, at);
     Eccentricities {
         inlet: read.first,
         outlet: read.second,
     }
 }
 
-pub fn read_bottom(sheet: &[u8]) -> Bottom
+pub fn read_bottom(sheet: &[u8], at: usize) -> Bottom
+    requires { ⌜ (at ≡ place (now sheet) 3) × (at ≤ 1024) ⌝ }
     ensures { λ r. ⌜ (r ≡ bottom-of (now (sheet .entry))) × (r .height < 4294967296) × (r .run < 4294967296) ⌝ }
 {
-    let read = read_pair(sheet, 3);
+    let read = read_pair(sheet, at);
     Bottom {
         height: read.first,
         run: read.second,
     }
 }
 
-pub fn strakes(sheet: &[u8]) -> usize
-    ensures { λ r. ⌜ (r ≡ strake-count (now (sheet .entry))) × (r < 32768) ⌝ }
+// The strake heights, in 24 places, and their sum.
+pub fn read_wall(sheet: &[u8], at: usize, end: usize) -> Wall
+    requires { ⌜ (at ≡ place (now sheet) 4) × (end ≡ place (now sheet) 5) × (end ≤ 1024) × (strake-count (now sheet) ≤ 24) ⌝ }
+    ensures { λ r. ⌜ (r ≡ wall-of (now (sheet .entry))) × (r .foot < 4294967296) ⌝ }
 {
-    payload_bytes(sheet, 4) as usize / 2
-}
-
-// The wall's height V, mm.
-pub fn wall_height(sheet: &[u8]) -> u64
-    ensures { λ r. ⌜ (r ≡ V-of (now (sheet .entry))) × (r < 4294967296) ⌝ }
-{
-    let count = strakes(sheet);
-    let mut at = payload_place(sheet, 4);
-    let mut height: u64 = 0;
-    let mut i: usize = 0;
-    while i < count {
-        height += two_bytes(sheet, at);
-        at += 2;
-        i += 1;
-    }
-    height
-}
-
-// The strake heights, in 24 places.
-pub fn read_wall(sheet: &[u8]) -> Wall
-    requires { ⌜ strake-count (now sheet) ≤ 24 ⌝ }
-    ensures { λ r. ⌜ r ≡ wall-of (now (sheet .entry)) ⌝ }
-{
-    let count = strakes(sheet);
-    let mut at = payload_place(sheet, 4);
+    let count = payload_bytes(at, end) / 2;
+    let mut next = at + 4;
     let mut heights = [0u64; 24];
+    let mut foot: u64 = 0;
     let mut i: usize = 0;
     while i < count {
-        heights[i] = two_bytes(sheet, at);
-        at += 2;
+        let height = two_bytes(sheet, next);
+        heights[i] = height;
+        foot += height;
+        next += 2;
         i += 1;
     }
-    Wall { heights, count }
-}
-
-pub fn depth_count(sheet: &[u8]) -> usize
-    ensures { λ r. ⌜ (r ≡ depth-count (now (sheet .entry))) × (r < 16384) ⌝ }
-{
-    payload_bytes(sheet, 5) as usize / 4
+    Wall {
+        heights,
+        count,
+        foot,
+    }
 }

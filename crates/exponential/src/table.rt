@@ -1,10 +1,10 @@
-// The table of 2^40·e^(-k/64), k = 0 to 3,392. A function that names a constant array stores it anew at each call, so only
-// `entries` names it: it is called once, and the table is lent down.
+// The table of 2^40·e^(-k/64), k = 0 to 3,392. A function that names a constant array stores it anew at each call, and one that hands it
+// back stores it twice: so the table is named once for a sheet, where the list is filled, and lent down.
 ghost use mathlib.Core.Path.{_≡_};
 ghost use Rattle.exponential.specs.Table.{Tabulated};
 ghost use Rattle.exponential.specs.program.Table.{table};
 
-const ENTRIES: [u64; 3393] = [
+pub const ENTRIES: [u64; 3393] = [
     1099511627776,
     1082465279991,
     1065683211333,
@@ -3400,6 +3400,7 @@ const ENTRIES: [u64; 3393] = [
     0,
 ];
 
+// What the constant holds.
 pub fn entries() -> [u64; 3393]
     ensures { λ r. ⌜ (r ≡ table) × Tabulated r ⌝ }
 {

@@ -3,7 +3,6 @@
 --     skipped        no refusal in the first part: the refusal is that of the second
 --     stopped        a refusal in the first part is the refusal of the whole
 --     apart          no refusal in the whole: none in each part
---     tried          rules tried one after the other, with the refusal so far, give the first that is not met
 --     absent         a number that no rule has is never the refusal
 -- A refusal is told from 0 by its number, so that the numbers have to be positive (`numbered`): a test that computes for every chain.
 use Prim.Native.Nat.{ℕ, zero, suc, _<_}
@@ -14,7 +13,6 @@ use native.Mathlib.Omega.{arith}
 use borrow.Author.Tests.{eq-eqb}
 use lib.Dec.{eqb}
 use Rattle.records.specs.Rules.{Rule, _unless_, first-unmet}
-use Rattle.records.specs.program.Chain.{then}
 use Rattle.records.proofs.Tests.{absurd, both-true, either-right}
 
 abbrev positive : ℕ → Bool
@@ -73,34 +71,6 @@ module _ (b : List Rule) where
       let m = first-met (r .number) (r .met) (a ++ b) (q .0) h in
       let rest = apart a (q .1) (m .1) in
       (rw (m .0) (rest .0), rest .1)
-
-pub then-refused : (n : ℕ) (r : Rule) → (n ≡ 0 → ⊥) → then n r ≡ n
-unfolding then
-then-refused zero r h = absurd (h refl)
-then-refused (suc n) r h = refl
-
--- the rules of a list, tried one after the other
-abbrev pub thens : ℕ → List Rule → ℕ
-thens n [] = n
-thens n (r ∷ l) = thens (then n r) l
-
-refused : (n : ℕ) (l : List Rule) → thens (suc n) l ≡ suc n
-unfolding then
-refused n [] = refl
-refused n (r ∷ l) = refused n l
-
-tried-next : (n : ℕ) (m : Bool) (l : List Rule) → positive n ≡ true → thens 0 l ≡ first-unmet l → thens (then 0 (n unless m)) l ≡ first-unmet (n unless m ∷ l)
-unfolding then first-unmet
-tried-next n true l p h = h
-tried-next zero false l p h = absurd (false≢true p)
-tried-next (suc n) false l p h = refused n l
-
-pub tried : (l : List Rule) → numbered l ≡ true → thens 0 l ≡ first-unmet l
-unfolding first-unmet
-tried [] p = refl
-tried (r ∷ l) p =
-    let q = both-true (positive (r .number)) (numbered l) p in
-    tried-next (r .number) (r .met) l (q .0) (tried l (q .1))
 
 -- whether a number is that of a rule
 abbrev pub has : List Rule → ℕ → Bool

@@ -3,39 +3,51 @@ use Prim.Native.Nat.{ℕ, zero, suc, _+_, _-_, _%_, _≤_, _<_}
 use mathlib.Core.Bool.{true, cond, _&&_}
 use mathlib.Core.List.{List, [], _∷_}
 use mathlib.Core.Logic.{_⊎_, inl, inr, ⊎-elim}
-use mathlib.Core.Path.{_≡_, refl, sym}
+use mathlib.Core.Path.{_≡_, refl, sym, _∙_}
+use native.Mathlib.Decide.{decLe, decLt}
 use native.Mathlib.Numerals.{add-one}
 use native.Mathlib.Omega.{arith}
-use borrow.Author.Tests.{eqb-true, le-leb, lt-leb, ne-eqb}
+use borrow.Author.Tests.{eqb-true, eq-eqb, le-leb, lt-leb, ne-eqb}
 use lib.Dec.{eqb}
-use lib.ListN.{length, List·getD-eq-default}
+use lib.ListN.{length, getD, set}
+use lib.Seq.{getD-set-same, getD-set-other}
 use Rattle.records.specs.Rules.{within, first-unmet}
-use Rattle.records.specs.Format.{u16, place, payload, payload-length, due, step-of, most-of, allowed, record-rules, records-rules}
-use Rattle.records.proofs.Tests.{both-true, either-true}
+use Rattle.records.specs.Format.{u16, place, payload-length, due, step-of, most-of, allowed, record-rules, records-rules}
+use Rattle.records.proofs.Tests.{absurd, both-true, either-true}
 use Rattle.records.proofs.Chain.{numbered, skipped, stopped}
 
-pub step-positive : (t : ℕ) → t < 8 → 0 < step-of t
-step-positive zero h = omega arith
-step-positive (suc zero) h = omega arith
-step-positive (suc (suc zero)) h = omega arith
-step-positive (suc (suc (suc zero))) h = omega arith
-step-positive (suc (suc (suc (suc zero)))) h = omega arith
-step-positive (suc (suc (suc (suc (suc zero))))) h = omega arith
-step-positive (suc (suc (suc (suc (suc (suc zero)))))) h = omega arith
-step-positive (suc (suc (suc (suc (suc (suc (suc zero))))))) h = omega arith
-step-positive (suc (suc (suc (suc (suc (suc (suc (suc t)))))))) h = omega arith
-
--- a kind over 7, which is never due, has the step 0 and allows 0 bytes
-pub other-allowed : (t n : ℕ) → 7 < t → allowed t n ≡ eqb n 0
-unfolding allowed
-other-allowed t n h =
-    let e : step-of t ≡ 0 = List·getD-eq-default {A = ℕ} (1 ∷ 4 ∷ 8 ∷ 10 ∷ 8 ∷ 8 ∷ 2 ∷ 4 ∷ []) 0 h in
-    let f : most-of t ≡ 0 = List·getD-eq-default {A = ℕ} (0 ∷ 4 ∷ 8 ∷ 10 ∷ 8 ∷ 8 ∷ 48 ∷ 800 ∷ []) 0 h in
-    simp (e, f) (by-length n)
+-- a payload of m bytes and no more
+one-length : (m n : ℕ) → m % m ≡ 0 → (within m m n && eqb (n % m) 0) ≡ eqb n m
+one-length m n whole = at-least (decLe m n)
   where
-    by-length : (n : ℕ) → (within 0 0 n && eqb (n % 0) 0) ≡ eqb n 0
-    by-length zero = refl
-    by-length (suc n) = simp (le-leb 0 (suc n) (omega arith), lt-leb (suc n) 0 (omega arith), ne-eqb (suc n) 0 (λ z. omega arith))
+    at-most : m ≤ n → Dec (n ≤ m) → (within m m n && eqb (n % m) 0) ≡ eqb n m
+    at-most l (yes h) = let e : n ≡ m = omega (arith, l, h) in rw e (simp (le-leb m m (omega arith), eq-eqb (m % m) 0 whole, eq-eqb m m refl))
+    at-most l (no h) = simp (le-leb m n l, lt-leb n m (omega (arith, h)), ne-eqb n m (λ e. h (omega (arith, e))))
+
+    at-least : Dec (m ≤ n) → (within m m n && eqb (n % m) 0) ≡ eqb n m
+    at-least (yes l) = at-most l (decLe n m)
+    at-least (no l) = simp (lt-leb m n (omega (arith, l)), ne-eqb n m (λ e. l (omega (arith, e))))
+
+pub circle-length : (n : ℕ) → allowed 1 n ≡ eqb n 4
+unfolding allowed
+circle-length n = one-length 4 n refl
+
+pub product-length : (n : ℕ) → allowed 3 n ≡ eqb n 10
+unfolding allowed
+product-length n = one-length 10 n refl
+
+-- the kinds of two numbers of four bytes: a rectangle, the eccentricities, the bottom
+pub pair-length : (t n : ℕ) → 0 < t → t < 8 → (t ≡ 1 → ⊥) → (t ≡ 3 → ⊥) → (t ≡ 6 → ⊥) → (t ≡ 7 → ⊥) → allowed t n ≡ eqb n 8
+unfolding allowed
+pair-length zero n p l a b c d = absurd (omega arith)
+pair-length (suc zero) n p l a b c d = absurd (a refl)
+pair-length (suc (suc zero)) n p l a b c d = one-length 8 n refl
+pair-length (suc (suc (suc zero))) n p l a b c d = absurd (b refl)
+pair-length (suc (suc (suc (suc zero)))) n p l a b c d = one-length 8 n refl
+pair-length (suc (suc (suc (suc (suc zero))))) n p l a b c d = one-length 8 n refl
+pair-length (suc (suc (suc (suc (suc (suc zero)))))) n p l a b c d = absurd (c refl)
+pair-length (suc (suc (suc (suc (suc (suc (suc zero))))))) n p l a b c d = absurd (d refl)
+pair-length (suc (suc (suc (suc (suc (suc (suc (suc t)))))))) n p l a b c d = absurd (omega arith)
 
 -- a kind that is due: k + 2, or 1 for record 0
 pub due-cases : (k t : ℕ) → due k t ≡ true → (t ≡ k + 2) ⊎ ((k ≡ 0) × (t ≡ 1))
@@ -43,6 +55,9 @@ due-cases k t h =
     ⊎-elim (λ p. inl (eqb-true t (k + 2) p))
     (λ p. let q = both-true (eqb k 0) (eqb t 1) p in inr (eqb-true k 0 (q .0), eqb-true t 1 (q .1)))
     (either-true (eqb t (k + 2)) (eqb k 0 && eqb t 1) h)
+
+pub due-kind : (k t : ℕ) → k < 6 → due k t ≡ true → (0 < t) × (t < 8)
+due-kind k t l h = ⊎-elim (λ p. (omega (arith, p), omega (arith, p, l))) (λ p. (omega (arith, p .1), omega (arith, p .1))) (due-cases k t h)
 
 pub place-first : (s : List ℕ) → place s 0 ≡ 0
 unfolding place
@@ -53,9 +68,24 @@ pub place-next : (s : List ℕ) (k : ℕ) → place s (k + 1) ≡ place s k + 4 
 unfolding place
 place-next s k = rw add-one refl
 
-pub payload-ends : (s : List ℕ) (k : ℕ) → payload s k + payload-length s k ≡ place s (k + 1)
-unfolding payload payload-length
-payload-ends s k = sym (place-next s k)
+-- the payload of record k lies between its header and the record after it
+pub payload-between : (s : List ℕ) (k : ℕ) {at end : ℕ} → at ≡ place s k → end ≡ place s (k + 1) → (at + 4 ≤ end) × (end - at - 4 ≡ payload-length s k)
+unfolding payload-length
+payload-between s k p q = (omega (arith, p, q, place-next s k), omega (arith, p, q, place-next s k))
+
+-- no record begins behind the end of the last
+pub place-most : (s : List ℕ) (k n : ℕ) → place s k ≤ place s (k + n)
+place-most s k zero = let e : k + 0 ≡ k = omega arith in rw e (omega arith)
+place-most s k (suc n) = let e : k + suc n ≡ k + n + 1 = omega arith in rw e (omega (arith, place-most s k n, place-next s (k + n)))
+
+-- the places noted so far, and that of record k behind them
+pub noted : (s places : List ℕ) (k at : ℕ) → k < length places → at ≡ place s k → ((j : ℕ) → j < k → getD places j 0 ≡ place s j)
+    → (j : ℕ) → j < k + 1 → getD (set places k at) j 0 ≡ place s j
+noted s places k at l e before j h = at-place (decLt j k)
+  where
+    at-place : Dec (j < k) → getD (set places k at) j 0 ≡ place s j
+    at-place (yes p) = getD-set-other places k j at 0 (λ z. omega (arith, z, p)) ∙ before j p
+    at-place (no p) = let z : j ≡ k = omega (arith, h, p) in rw z (getD-set-same places k at 0 l ∙ e)
 
 -- the records left, from record k on: the next one passed, refused, or none left
 module _ (s : List ℕ) (k : ℕ) where

@@ -1,10 +1,8 @@
 -- What the walks of the reader's functions share. A `Reader` holds a `&[u8]` and a number; both are Copy.
 --     slice, mach      the machine values of the slice that a reader holds, and of the reader
---     same             readers of one sheet at one place are the same
 --     vals, tells      how a reader's machine value is spelled, and that its type tells it
 --     typed, as-local  the machine value has the struct's MIR type, as a parameter and as a local of a body
 --     twice            what a reader owns is had twice
---     put-at           what a reader owns gives what the reader at another place of the same sheet owns
 --     answered         what a call hands back: the result, the token and what is said of the result
 --     Taken R F        the contract of a function that takes a reader alone, asks a place below 1,000,000, and says F of its result, of the type R.        goes, exits, meets     how it is called, how a walk of its MIR ends, and that such a walk proves it
 --     Passed Q E       the contract of a function that takes a sheet and a place, and says E of its result, of the type Q.        apart     how a function that takes a reader alone calls it
@@ -45,14 +43,10 @@ use denote.Triple.Statement.{Contract, Triple}
 use denote.Triple.Walked.{says, needs, Stays, stay-none, walkOf, goes-none, ends-at, walked, walk-meets}
 use Rattle.records.specs.declared.reader.Reader.{Reader}
 use Rattle.records.specs.declared.reader.Record.{Record}
-use Rattle.records.specs.program.Reader.{Stands, Moved}
+use Rattle.records.specs.program.Reader.{Stands}
 use Rattle.records.proofs.reader.Reader as T
 use Rattle.records.proofs.reader.Reader.Laws as T′
 use Rattle.records.proofs.reader.Record as S
-
--- readers of one sheet at one place are the same
-pub same : (d e : Reader) → e .sheet ≡ d .sheet → e .at ≡ d .at → e ≡ d
-same d e p q = λ i. record { sheet = p i; at = q i }
 
 -- the struct's type, over the signature's lifetimes
 abbrev pub B : Lfts 1 → RattleType
@@ -114,9 +108,6 @@ module _ {M : Type 1} (𝓤 : URA M) (H : Heap 𝓤) (A : Atoms 𝓤) (W : Given
       use1 W (given (mach d ∷ [] ≡ mach d ∷ []) (‵ (all-own (N .parts) laws fields))) (own-open 𝓤 H A W N laws fields (mach d)) $ learn ! (λ _.
       use1 W (‵ (ownAt (N .parts) laws 0 (d .sheet)) ⊛ ‵ (rest (N .parts) laws 0 fields)) (own-out 𝓤 H A W (N .parts) laws 0 fields) $ split ! $
       move ! (1 ∷ []) $ drop ! $ frame ! $ done !)
-
-  pub put-at : (n : ℕ) → n < 2 ^ 64 → ent 𝓤 (sem 𝓤 H A Own) (sem 𝓤 H A (B (κ, tt) .own (record { sheet = d .sheet; at = n }) (mach (record { sheet = d .sheet; at = n }) ∷ [])))
-  put-at n fits = qed W (‵ Own ∷ []) ∵ owned ! usize (Is usize) (uint-makes 𝓤 H A W w64) n _ (refl, fits) $ move ! (1 ∷ 0 ∷ []) $ by ! (own-put 𝓤 H A W N laws 1 fields n (mach d))
 
 -- what a call hands back
 module _ {M : Type 1} {𝓤 : URA M} {H : Heap 𝓤} {A : Atoms 𝓤} {K : Type 0} {W : Given 𝓤 H A} {Γ : List (Item 𝓤)} {G : Goal 𝓤 H} where
@@ -192,13 +183,10 @@ module _ (Q : RattleType) (E : List ℕ → ℕ → Q .Denot → Type 0) {M : Ty
         fits : d .at < 2 ^ 64
         fits = omega (arith, small)
 
--- the two that take a reader
+-- the one that takes a reader
 abbrev pub stands : Reader → Record → Type 0
 stands d = Stands (now (d .sheet)) (d .at)
 
 module _ {M : Type 1} (𝓤 : URA M) (H : Heap 𝓤) (A : Atoms 𝓤) where
-  abbrev pub Next : Contract 𝓤
-  Next = Taken B (λ _. Moved) 𝓤 H A
-
   abbrev pub Current : Contract 𝓤
   Current = Taken (λ _. S.the-row) (λ _. stands) 𝓤 H A

@@ -1,37 +1,44 @@
-// The records of a sheet: rules 1 to 5.
+// The records of a sheet: rules 1 to 5, and where each record begins.
 ghost use mathlib.Core.Path.{_≡_};
+ghost use lib.ListN.{length};
 ghost use Rattle.records.specs.Rules.{first-unmet};
-ghost use Rattle.records.specs.Format.{records-rules, layout-rules};
+ghost use Rattle.records.specs.Format.{layout-rules, records-rules};
+ghost use Rattle.records.specs.program.Reader.{Located};
 use crate::reader::read_record;
 use crate::rules::record_refusal;
 
-// Rules 2 to 5: the six records in order, and nothing left over.
-fn records_refusal(sheet: &[u8]) -> u32
-    ensures { λ r. ⌜ r ≡ first-unmet (records-rules (now (sheet .entry)) 6 0) ⌝ }
+// The first refusal of rules 2 to 5: the six records in order, and nothing left over. Without a refusal, 0 and the places where the
+// records begin; the last is where the sixth ends.
+fn locate(sheet: &[u8], places: &mut [usize; 7]) -> u32
+    requires { ⌜ length (now places) ≡ 7 ⌝ }
+    ensures { λ r. ⌜ (r ≡ first-unmet (records-rules (now (sheet .entry)) 6 0)) × (r ≡ 0 → Located (now (sheet .entry)) (now (places .exit))) ⌝ }
 {
-    let mut end: usize = 0;
+    let mut at: usize = 0;
     let mut k: usize = 0;
     while k < 6 {
-        let found = read_record(sheet, k);
-        let refused = record_refusal(sheet, found.place, k);
+        let found = read_record(sheet, at);
+        let refused = record_refusal(sheet, found, k);
         if refused != 0 {
             return refused;
         }
-        end = found.start + found.length as usize;
+        places[k] = at;
+        at = found.start + found.length as usize;
         k += 1;
     }
-    if end != sheet.len() {
+    places[6] = at;
+    if at != sheet.len() {
         return 5;
     }
     0
 }
 
 // Rules 1 to 5.
-pub fn layout_refusal(sheet: &[u8]) -> u32
-    ensures { λ r. ⌜ r ≡ first-unmet (layout-rules (now (sheet .entry))) ⌝ }
+pub fn find_records(sheet: &[u8], places: &mut [usize; 7]) -> u32
+    requires { ⌜ length (now places) ≡ 7 ⌝ }
+    ensures { λ r. ⌜ (r ≡ first-unmet (layout-rules (now (sheet .entry)))) × (r ≡ 0 → Located (now (sheet .entry)) (now (places .exit))) ⌝ }
 {
     if 1024 < sheet.len() {
         return 1;
     }
-    records_refusal(sheet)
+    locate(sheet, places)
 }

@@ -1,20 +1,10 @@
-// Rules in their order, and rules 2, 3 and 4 of one record.
+// Rules 2, 3 and 4 of one record.
 ghost use mathlib.Core.Path.{_≡_};
 ghost use Prim.Native.Nat.{_<_};
-ghost use Rattle.records.specs.Rules.{_unless_, first-unmet};
+ghost use Rattle.records.specs.Rules.{first-unmet};
 ghost use Rattle.records.specs.Format.{due, allowed, record-rules};
-ghost use Rattle.records.specs.program.Chain.{then};
-use crate::bytes::two_bytes;
-
-// The refusal so far, 0 where there is none; then the number of the next rule, unless that is met.
-pub fn unless(refused: u32, number: u32, met: bool) -> u32
-    ensures { λ r. ⌜ r ≡ then refused (number unless met) ⌝ }
-{
-    if refused != 0 {
-        return refused;
-    }
-    if met { 0 } else { number }
-}
+ghost use Rattle.records.specs.program.Reader.{Stands};
+use crate::reader::Record;
 
 // Whether the kind is the one due for record k.
 fn kind_due(k: usize, kind: u64) -> bool
@@ -24,33 +14,36 @@ fn kind_due(k: usize, kind: u64) -> bool
     (kind == k as u64 + 2) | ((k == 0) & (kind == 1))
 }
 
-// Bytes of a payload by kind, 1 to 7: STEP, 2 STEP, .. up to MOST. No kind is 0; its step is 1, so that nothing is divided by 0.
-const STEP: [u64; 8] = [1, 4, 8, 10, 8, 8, 2, 4];
-
-const MOST: [u64; 8] = [0, 4, 8, 10, 8, 8, 48, 800];
-
-// Whether the kind allows a payload of so many bytes.
+// Whether a kind, 1 to 7, allows a payload of so many bytes: 1 to 24 strakes of 2, 1 to 200 depths of 4, else one length alone.
 fn length_allowed(kind: u64, length: u64) -> bool
+    requires { ⌜ (0 < kind) × (kind < 8) ⌝ }
     ensures { λ r. ⌜ r ≡ allowed kind length ⌝ }
 {
-    if 7 < kind {
-        return length == 0;
+    match kind {
+        1 => length == 4,
+        3 => length == 10,
+        6 => (2 <= length) & (length <= 48) & (length % 2 == 0),
+        7 => (4 <= length) & (length <= 800) & (length % 4 == 0),
+        _ => length == 8,
     }
-    let row = kind as usize;
-    let step = STEP[row];
-    (step <= length) & (length <= MOST[row]) & (length % step == 0)
 }
 
-// The first refusal of rules 2, 3 and 4 of the record k, which begins at `at`, or 0.
-pub fn record_refusal(sheet: &[u8], at: usize, k: usize) -> u32
-    requires { ⌜ (at < 1000000) × (k < 6) ⌝ }
-    ensures { λ r. ⌜ r ≡ first-unmet (record-rules (now (sheet .entry)) at k) ⌝ }
+// The first refusal of rules 2, 3 and 4 of a record that stands where record k is due, or 0.
+pub fn record_refusal(sheet: &[u8], found: Record, k: usize) -> u32
+    requires { ⌜ Stands (now sheet) (found .place) found × (found .place < 1000000) × (k < 6) ⌝ }
+    ensures { λ r. ⌜ r ≡ first-unmet (record-rules (now (sheet .entry)) (found .place) k) ⌝ }
 {
-    let kind = two_bytes(sheet, at + 2);
-    let length = two_bytes(sheet, at);
-    let end = at + 4 + length as usize;
-    let refused = unless(0, 2, at + 4 <= sheet.len());
-    let refused = unless(refused, 3, kind_due(k, kind));
-    let refused = unless(refused, 4, length_allowed(kind, length));
-    unless(refused, 2, end <= sheet.len())
+    if sheet.len() < found.start {
+        return 2;
+    }
+    if !kind_due(k, found.kind) {
+        return 3;
+    }
+    if !length_allowed(found.kind, found.length) {
+        return 4;
+    }
+    if sheet.len() < found.start + found.length as usize {
+        return 2;
+    }
+    0
 }

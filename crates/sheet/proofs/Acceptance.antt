@@ -4,7 +4,7 @@ use Prim.Native.Nat.{ℕ, _*_}
 use mathlib.Core.Bool.{true, _&&_, _||_}
 use mathlib.Core.List.{List}
 use mathlib.Core.Logic.{_⊎_, inl, inr, ⊎-elim}
-use mathlib.Core.Path.{_≡_, refl, _∙_}
+use mathlib.Core.Path.{_≡_, refl, sym, _∙_}
 use native.Mathlib.Omega.{arith}
 use borrow.Author.Tests.{leb-true, ltb-true, eqb-true, le-leb, lt-ltb, eq-eqb}
 use lib.Dec.{leb, ltb, eqb}
@@ -17,7 +17,7 @@ use Rattle.description.specs.declared.Bottom.{Bottom}
 use Rattle.records.specs.Rules.{within, first-unmet}
 use Rattle.records.specs.Format.{u32, record-rules, records-rules, layout-rules}
 use Rattle.records.proofs.Tests.{both-true, either-true, either-right, within-true, true-within}
-use Rattle.records.proofs.Chain.{numbered, met-at, met, apart, skipped, absent}
+use Rattle.records.proofs.Chain.{numbered, met-at, met, apart, skipped, stopped, absent}
 use Rattle.records.proofs.Numbers.{numbers-length}
 use Rattle.description.specs.Silo.{section-of, product-sent, eccentricities-of, bottom-of, strakes-of, depths-of, depth-count, V-of, h-of}
 use Rattle.description.proofs.Walls.{strakes-length}
@@ -25,6 +25,16 @@ use Rattle.sheet.specs.Refusal.{side-met, sides-met, product-met, flat, 
 use Rattle.sheet.specs.Accepted.{Hopper, Accepted}
 use Rattle.sheet.proofs.Heights.{strakes-met-at, at-strakes-met, rising-most, rising-next, next-rising}
 use Rattle.sheet.proofs.Layouts.{layout-numbered, layout-of, of-layout}
+
+-- the first refusal is that of the records or, where they have none, that of the values
+module _ (s : List ℕ) {r : ℕ} where
+  pub records-refused : r ≡ first-unmet (layout-rules s) → (r ≡ 0 → ⊥) → r ≡ refusal-of s
+  unfolding refusal-of sheet-rules
+  records-refused e n = e ∙ sym (stopped (value-rules s) (layout-rules s) (λ z. n (e ∙ z)))
+
+  pub values-refused : first-unmet (layout-rules s) ≡ 0 → r ≡ first-unmet (value-rules s) → r ≡ refusal-of s
+  unfolding refusal-of sheet-rules
+  values-refused h e = e ∙ sym (skipped (value-rules s) (layout-rules s) (layout-numbered s) h)
 
 pub depths-length : (s : List ℕ) → length (depths-of s) ≡ depth-count s
 unfolding depths-of

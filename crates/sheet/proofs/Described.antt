@@ -1,20 +1,21 @@
 -- What the layers above may use of an accepted sheet: every number inside its range, the wall's edges, the depths.
 -- A sum of at most 24 strakes of at most 3,000 is at most 72,000; each strake of at least 200 moves the edge down.
-use Prim.Native.Nat.{ℕ, zero, suc, _+_, _-_, _*_, _≤_, _<_}
+use Prim.Native.Nat.{ℕ, suc, _+_, _*_, _≤_, _<_}
 use mathlib.Core.List.{List, [], _∷_}
 use mathlib.Core.Logic.{_⊎_, ⊎-elim}
-use mathlib.Core.Path.{_≡_, refl, ap, ap₂, sym, _∙_}
-use native.Mathlib.Numerals.{add-one}
+use mathlib.Core.Path.{_≡_, refl, ap, sym, _∙_}
 use native.Mathlib.Omega.{arith}
 use borrow.Author.Tests.{eq-eqb, ne-eqb}
-use lib.ListN.{length, getD, take, replicate, List·getD-append}
+use lib.ListN.{length, getD, take}
 use lib.Seq.{take-length}
 use Rattle.janssen.specs.Section.{d-c}
 use Rattle.janssen.specs.program.Range.{Within, InRange}
-use Rattle.description.specs.Silo.{section-of, product-sent, product-of, factor-read, strakes-of, strake-count, sum, V-of, h-of, edge-of}
-use Rattle.description.specs.program.Wall.{wall-of, wall-top, wall-lowered, wall-after}
+use Rattle.description.specs.Silo.{section-of, product-sent, product-of, factor-read, strakes-of, strake-count, depths-of, sum, V-of, h-of, edge-of}
+use Rattle.description.specs.program.Described.{wall-of, described-of}
+use Rattle.sheet.specs.Refusal.{value-rules}
+use Rattle.sheet.specs.program.Judged.{described-rules}
 use Rattle.sheet.specs.Accepted.{Accepted}
-use Rattle.description.proofs.Walls.{strakes-length}
+use Rattle.description.proofs.Walls.{strakes-length, wall-fits}
 use Rattle.description.proofs.Sums.{sum-next, sum-take}
 
 -- sums of a list whose elements are at most m
@@ -34,8 +35,13 @@ factor-range c x =
     (λ w. let n : c ≡ 0 → ⊥ = λ z. omega arith in simp (ne-eqb c 0 n) w)
     x
 
+-- the rules of the silo described are those of the sheet's values
+pub described-judged : (s : List ℕ) → strake-count s ≤ 24 → described-rules (described-of s) (depths-of s) ≡ value-rules s
+unfolding described-rules value-rules wall-of h-of
+described-judged s h = rw (wall-fits s h .1) refl
+
 module _ (s : List ℕ) where
-  -- the edges: 0 at the brim, V at the foot, each below the one before by its strake. C-12 and C-22 ask for these.
+  -- the edges: 0 at the brim, V at the foot, each below the one before by its strake. C-22 asks for these.
   pub edge-top : edge-of s 0 ≡ 0
   unfolding edge-of sum
   edge-top = refl
@@ -51,24 +57,6 @@ module _ (s : List ℕ) where
   pub edge-most : (k : ℕ) → edge-of s k ≤ V-of s
   unfolding edge-of V-of
   edge-most k = sum-take (strakes-of s) k
-
-  -- the heights of the wall are the strakes
-  pub wall-height-at : (k : ℕ) → k < strake-count s → getD (wall-of s .heights) k 0 ≡ getD (strakes-of s) k 0
-  unfolding wall-of
-  wall-height-at k h =
-      let n = strakes-length s in
-      List·getD-append (strakes-of s) (replicate (24 - strake-count s) 0) 0 k (omega arith)
-
-  -- going down: after k strakes the next is strake k and the edge is its upper edge. C-12 asks for this.
-  pub wall-state : (k : ℕ) → k ≤ strake-count s → wall-after (wall-of s) k ≡ record { next = k; edge = edge-of s k }
-  unfolding wall-after wall-top wall-lowered
-  wall-state zero h = ap (λ e. record { next = 0; edge = e }) (sym edge-top)
-  wall-state (suc k) h =
-      let r = wall-state k (omega arith) in
-      let e = edge-next k (omega arith) in
-      let g = wall-height-at k (omega arith) in
-      ap (wall-lowered (wall-of s)) r
-      ∙ ap₂ (λ (n e : ℕ). record { next = n; edge = e }) (add-one k) (omega arith)
 
   module _ (a : Accepted s) where
     pub edge-rises : (k : ℕ) → k < strake-count s → edge-of s k < edge-of s (suc k)

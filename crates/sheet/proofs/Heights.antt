@@ -2,23 +2,35 @@
 use Prim.Native.Nat.{ℕ, zero, suc, _+_, _≤_, _<_}
 use mathlib.Core.Bool.{Bool, true, false, _&&_}
 use mathlib.Core.List.{List, [], _∷_}
-use mathlib.Core.Path.{_≡_, refl}
+use mathlib.Core.Path.{_≡_, refl, ap, sym, _∙_}
+use native.Mathlib.Numerals.{add-one}
 use native.Mathlib.Omega.{arith}
-use lib.ListN.{length, getD}
+use lib.ListN.{length, getD, take, drop}
+use lib.Seq.{length-take-le, drop-length, drop-cons, getD-take}
 use Rattle.records.specs.Rules.{within}
 use Rattle.records.proofs.Tests.{absurd, both-true, within-true, true-within}
 use Rattle.sheet.specs.Refusal.{strakes-met, depths-met}
 
--- going through the list with what was met so far
-pub strakes-next : (m : Bool) (x : ℕ) (l : List ℕ) → (m && strakes-met (x ∷ l)) ≡ (m && within 200 3000 x && strakes-met l)
-unfolding strakes-met
-strakes-next true x l = refl
-strakes-next false x l = refl
+-- going through the first heights of a wall: the strake i and those behind it, and none left
+module _ (heights : List ℕ) (count : ℕ) (fits : count ≤ length heights) where
+  pub strakes-next : (i : ℕ) → i < count
+      → strakes-met (drop i (take count heights)) ≡ (within 200 3000 (getD heights i 0) && strakes-met (drop (i + 1) (take count heights)))
+  unfolding strakes-met
+  strakes-next i h =
+      let l = take count heights in
+      let inside : i < length l = omega (arith, h, length-take-le count heights fits) in
+      ap strakes-met (drop-cons l i 0 inside) ∙ rw (add-one, getD-take count heights i 0 h) refl
 
-pub depths-next : (m : Bool) (top low z : ℕ) (l : List ℕ) → (m && depths-met top low (z ∷ l)) ≡ (m && within low top z && depths-met top (z + 1) l)
+  pub strakes-done : (i : ℕ) → i ≡ count → strakes-met (drop i (take count heights)) ≡ true
+  unfolding strakes-met
+  strakes-done i e =
+      let l = take count heights in
+      let whole : i ≡ length l = e ∙ sym (length-take-le count heights fits) in
+      ap (λ (n : ℕ). strakes-met (drop n l)) whole ∙ ap strakes-met (drop-length l)
+
+pub depths-next : (top low z : ℕ) (l : List ℕ) → depths-met top low (z ∷ l) ≡ (within low top z && depths-met top (z + 1) l)
 unfolding depths-met
-depths-next true top low z l = refl
-depths-next false top low z l = refl
+depths-next top low z l = refl
 
 -- every strake of a list inside its limits
 pub strakes-met-at : (l : List ℕ) → strakes-met l ≡ true → (i : ℕ) → i < length l → (200 ≤ getD l i 0) × (getD l i 0 ≤ 3000)

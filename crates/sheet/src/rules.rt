@@ -1,28 +1,23 @@
 // Rules 6 to 12, each a test; dc is d_c, mm.
 ghost use mathlib.Core.Path.{_≡_};
-ghost use Prim.Native.Nat.{_*_, _<_};
+ghost use Prim.Native.Nat.{_*_, _<_, _≤_};
 ghost use lib.Dec.{ltb};
+ghost use lib.ListN.{length, take};
 ghost use Rattle.records.specs.Rules.{within, first-unmet};
-ghost use Rattle.description.specs.Silo.{strakes-of, depths-of};
-ghost use Rattle.sheet.specs.Refusal.{sides-met, product-met, eccentricities-met, flat, hopper, strakes-met, depths-met, value-rules};
+ghost use Rattle.description.specs.Silo.{depths-of};
+ghost use Rattle.description.specs.program.Described.{depths-in, Sized};
+ghost use Rattle.sheet.specs.Refusal.{sides-met, product-met, eccentricities-met, flat, hopper, strakes-met, depths-met};
+ghost use Rattle.sheet.specs.program.Judged.{described-rules};
 use description::Bottom;
+use description::Depths;
+use description::Described;
 use description::Eccentricities;
-use description::values::depth_count;
-use description::values::payload_place;
-use description::values::read_bottom;
-use description::values::read_eccentricities;
-use description::values::read_product_sent;
-use description::values::read_section;
-use description::values::strakes;
-use description::values::wall_height;
 use janssen::Product;
 use janssen::Section;
 use janssen::shorter_side;
 use janssen::side_a;
 use janssen::side_b;
 use records::bytes::four_bytes;
-use records::bytes::two_bytes;
-use records::rules::unless;
 
 // low ≤ x ≤ high
 fn between(low: u64, high: u64, x: u64) -> bool
@@ -73,39 +68,40 @@ fn is_hopper(dc: u64, bottom: Bottom) -> bool
         & (363971 * bottom.run <= 1000000 * bottom.height)
 }
 
-// Rule 10.
-fn strakes_met(sheet: &[u8]) -> bool
-    ensures { λ r. ⌜ r ≡ strakes-met (strakes-of (now (sheet .entry))) ⌝ }
+// Rule 10, of the first heights.
+fn strakes_met(heights: &[u64; 24], count: usize) -> bool
+    requires { ⌜ (length (now heights) ≡ 24) × (count ≤ 24) ⌝ }
+    ensures { λ r. ⌜ r ≡ strakes-met (take count (now (heights .entry))) ⌝ }
 {
-    let count = strakes(sheet);
-    let mut at = payload_place(sheet, 4);
-    let mut met = true;
     let mut i: usize = 0;
     while i < count {
-        met = met & between(200, 3000, two_bytes(sheet, at));
-        at += 2;
+        if !between(200, 3000, heights[i]) {
+            return false;
+        }
         i += 1;
     }
-    met
+    true
 }
 
-// Rule 11: each depth is from low to the wall's height, low being one more than the depth before.
-fn depths_met(sheet: &[u8], height: u64) -> bool
-    ensures { λ r. ⌜ r ≡ depths-met height 0 (depths-of (now (sheet .entry))) ⌝ }
+// Rule 11: each depth is from low to the wall's foot, low being one more than the depth before.
+fn depths_met(sheet: &[u8], depths: Depths, foot: u64) -> bool
+    requires { ⌜ (depths ≡ depths-in (now sheet)) × (depths .start ≤ 1024) × (depths .count ≤ 1024) ⌝ }
+    ensures { λ r. ⌜ r ≡ depths-met foot 0 (depths-of (now (sheet .entry))) ⌝ }
 {
-    let count = depth_count(sheet);
-    let mut at = payload_place(sheet, 5);
+    let count = depths.count;
+    let mut at = depths.start;
     let mut low: u64 = 0;
-    let mut met = true;
     let mut i: usize = 0;
     while i < count {
         let z = four_bytes(sheet, at);
-        met = met & between(low, height, z);
+        if !between(low, foot, z) {
+            return false;
+        }
         low = z + 1;
         at += 4;
         i += 1;
     }
-    met
+    true
 }
 
 // Rule 12.
@@ -116,25 +112,38 @@ fn height_met(dc: u64, h: u64) -> bool
     h < 10 * dc
 }
 
-// The first refusal of rules 6 to 12, or 0; h is the height of the silo, mm.
-pub fn values_refusal(sheet: &[u8]) -> u32
-    ensures { λ r. ⌜ r ≡ first-unmet (value-rules (now (sheet .entry))) ⌝ }
+// The first refusal of rules 6 to 12 of the silo described, or 0. No rule behind it is worked out.
+pub fn values_refusal(sheet: &[u8], described: Described) -> u32
+    requires { ⌜ Sized described × (described .depths ≡ depths-in (now sheet)) ⌝ }
+    ensures { λ r. ⌜ r ≡ first-unmet (described-rules described (depths-of (now (sheet .entry)))) ⌝ }
 {
-    let section = read_section(sheet);
+    let section = described.section;
+    if !sides_met(section) {
+        return 6;
+    }
+    let product = described.product;
+    if !product_met(product) {
+        return 7;
+    }
     let dc = shorter_side(section);
-    let bottom = read_bottom(sheet);
-    let height = wall_height(sheet);
-    let h = height + bottom.height;
-    let below_ten = height_met(dc, h);
-    let refused = unless(0, 6, sides_met(section));
-    let refused = unless(refused, 7, product_met(read_product_sent(sheet)));
-    let refused = unless(
-        refused,
-        8,
-        eccentricities_met(dc, read_eccentricities(sheet)),
-    );
-    let refused = unless(refused, 9, is_flat(bottom) | is_hopper(dc, bottom));
-    let refused = unless(refused, 10, strakes_met(sheet));
-    let refused = unless(refused, 11, depths_met(sheet, height));
-    unless(refused, 12, below_ten)
+    let eccentricities = described.eccentricities;
+    if !eccentricities_met(dc, eccentricities) {
+        return 8;
+    }
+    let bottom = described.bottom;
+    if !(is_flat(bottom) | is_hopper(dc, bottom)) {
+        return 9;
+    }
+    if !strakes_met(&described.wall.heights, described.wall.count) {
+        return 10;
+    }
+    let foot = described.wall.foot;
+    let depths = described.depths;
+    if !depths_met(sheet, depths, foot) {
+        return 11;
+    }
+    if !height_met(dc, foot + bottom.height) {
+        return 12;
+    }
+    0
 }

@@ -1,15 +1,29 @@
 -- The answer list as the program fills it, part by part.
-use Prim.Native.Nat.{ℕ, zero, suc}
+use Prim.Native.Nat.{ℕ, zero, suc, max}
 use mathlib.Core.List.{List, [], _∷_, _++_}
 use lib.ListN.{length, take}
 use Rattle.janssen.specs.program.Pressure.{computed}
 use Rattle.description.specs.Silo.{strakes-of, depth-count, sum}
+use Rattle.description.specs.declared.Described.{Described}
+use Rattle.description.specs.program.Described.{product-read}
 use Rattle.loads.specs.declared.Silo.{Silo}
 use Rattle.loads.specs.declared.Basis.{Basis}
 use Rattle.loads.specs.Load.{number, bottom-numbers}
 use Rattle.loads.specs.Load.Load.{p-he}
 use Rattle.loads.specs.program.Basis.{basis-for, depth-numbers}
 use Rattle.answers.specs.Answers.{silo-of, depth}
+
+-- the silo described, as its loads see it; e is the larger of e_i, e_o
+abbrev pub silo-in : Described → Silo
+silo-in d =
+    record {
+      section = d .section;
+      product = product-read (d .product);
+      eccentricity = max (d .eccentricities .inlet) (d .eccentricities .outlet);
+      height = d .bottom .height;
+      run = d .bottom .run;
+      foot = d .wall .foot;
+    }
 
 -- F of each index from k on, n of them, one after the other
 unfoldable pub each : (ℕ → List ℕ) → ℕ → ℕ → List ℕ

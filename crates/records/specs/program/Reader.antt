@@ -1,10 +1,9 @@
--- What the record reader's functions say of a record and of the next reader.
+-- What the record reader says of a record, and the places where the records of a sheet begin.
 use Prim.Native.Nat.{ℕ, _+_, _≤_, _<_}
 use mathlib.Core.List.{List}
 use mathlib.Core.Path.{_≡_}
-use denote.Ref.{now}
-use Rattle.records.specs.Format.{u16, place, kind, payload, payload-length}
-use Rattle.records.specs.declared.reader.Reader.{Reader}
+use lib.ListN.{getD, length}
+use Rattle.records.specs.Format.{u16, place}
 use Rattle.records.specs.declared.reader.Record.{Record}
 
 -- the record that begins at a place
@@ -15,21 +14,8 @@ pub record Stands (s : List ℕ) (at : ℕ) (f : Record) : Type 0 where
   pub sized : f .length ≡ u16 s at
   pub small : f .length < 65536
 
--- the place behind the record that begins at a place
-pub record Behind (s : List ℕ) (at n : ℕ) : Type 0 where
-  pub past : n ≡ at + 4 + u16 s at
-  pub near : n ≤ at + 65539
-
--- the reader behind the record where another stands
-pub record Moved (d e : Reader) : Type 0 where
-  pub same-sheet : e .sheet ≡ d .sheet
-  pub behind : Behind (now (d .sheet)) (d .at) (e .at)
-
--- the record k of a sheet
-pub record Found (s : List ℕ) (k : ℕ) (f : Record) : Type 0 where
-  pub placed : f .place ≡ place s k
-  pub kinded : f .kind ≡ kind s k
-  pub started : f .start ≡ payload s k
-  pub sized : f .length ≡ payload-length s k
-  pub inside : f .start < 500000
-  pub small : f .length < 65536
+-- the places where the six records begin, and where the last ends: at the end of the sheet
+pub record Located (s places : List ℕ) : Type 0 where
+  pub seven : length places ≡ 7
+  pub located : (k : ℕ) → k ≤ 6 → getD places k 0 ≡ place s k
+  pub ends : place s 6 ≡ length s

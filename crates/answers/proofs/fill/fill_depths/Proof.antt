@@ -8,13 +8,14 @@ use native.Mathlib.Omega.{arith}
 use lib.ListN.{length}
 use lib.Seq.{sets, length-sets}
 use Rattle.records.specs.Format.{payload}
+use Rattle.description.specs.declared.Depths.{Depths}
 use Rattle.description.specs.Silo.{depth-count}
 use Rattle.sheet.proofs.Acceptance.{accepted}
 use Rattle.answers.specs.program.Fill.{each, at-depth, depths-part}
 use Rattle.answers.proofs.Stores.{each-next, each-done}
 use Rattle.answers.proofs.Places.{length-at-depth}
 use Rattle.answers.proofs.Demand.{depth-reached}
-use Rattle.answers.proofs.Whole.{depth-read, basis-sound}
+use Rattle.answers.proofs.Whole.{depth-read, depths-near, basis-sound}
 use Rattle.answers.proofs.fill.fill_depths.Statement.{statement}
 use Rattle.answers.proofs.fill.fill_depths.Tie as tie
 
@@ -26,37 +27,36 @@ Inv-loop entries sheet basis list₀ count at₀ i₀ list at i =
 abbrev μ-loop : tie.MeasureT-loop
 μ-loop entries sheet basis list₀ count at₀ i₀ list at i = count - i
 
-depth-count-requires : tie.Need-depth-count-requires Inv-loop μ-loop
-depth-count-requires c κs = search needs
-
-payload-place-requires : tie.Need-payload-place-requires Inv-loop μ-loop
-payload-place-requires c κs = search needs
-
 loop-holds : tie.Need-loop-holds Inv-loop μ-loop
 loop-holds c =
-    let a = c .before .before .before .before .args in
+    let start = c .before .before in
+    let a = start .args in
     let s = a .sheet .now in
     let all : depth-count s ≡ depth-count s - 0 = omega arith in (
       omega arith,
-      c .before .depth-count .ensures .0,
+      ap (λ (d : Depths). d .count) (start .pre .2),
       refl,
-      omega (arith, c .payload-place .ensures .0),
+      omega (arith, ap (λ (d : Depths). d .start) (start .pre .2)),
       ap (λ (n : ℕ). sets (a .list .now) 0 (each (at-depth s) 0 n)) all,
     )
 
 four-bytes-requires : tie.Need-four-bytes-requires Inv-loop μ-loop
-four-bytes-requires c κs = search needs
+four-bytes-requires c κs =
+    let l = c .before .loop in
+    let start = c .before .before .before .before in
+    let near = depths-near (start .args .sheet .now) (start .pre .1) in
+    omega (arith, l .inv .0, l .inv .1, l .inv .3, near .0, near .1)
 
 depth-numbers-requires : tie.Need-depth-numbers-requires Inv-loop μ-loop
 depth-numbers-requires c κs =
     let l = c .before .before .loop in
-    let start = c .before .before .before .before .before .before .before in
+    let start = c .before .before .before .before .before in
     let s = start .args .sheet .now in
     let pre = start .pre in
     let i : l .i < depth-count s = omega (arith, c .before .loop-test .taken, l .inv .1) in (
       pre .0,
-      rw (pre .2) (basis-sound s (pre .1)),
-      rw (pre .2, c .four-bytes .ensures .0, depth-read s (l .i) (l .at) i (l .inv .3)) (depth-reached s (accepted s (pre .1)) (l .i) i),
+      rw (pre .3) (basis-sound s (pre .1)),
+      rw (pre .3, c .four-bytes .ensures .0, depth-read s (l .i) (l .at) i (l .inv .3)) (depth-reached s (accepted s (pre .1)) (l .i) i),
     )
 
 mul-store : tie.Need-mul-store Inv-loop μ-loop
@@ -69,7 +69,11 @@ store-requires : tie.Need-store-requires Inv-loop μ-loop
 store-requires c κs = search needs
 
 add-at : tie.Need-add-at Inv-loop μ-loop
-add-at c = search needs
+add-at c =
+    let l = c .before .before .before .before .before .before .before .before .loop in
+    let start = c .before .before .before .before .before .before .before .before .before .before .before in
+    let near = depths-near (start .args .sheet .now) (start .pre .1) in
+    omega (arith, l .inv .0, l .inv .1, l .inv .3, near .0, near .1)
 
 add-i : tie.Need-add-i Inv-loop μ-loop
 add-i c = search needs
@@ -83,12 +87,12 @@ loop-again c =
     let row = c .before .before .before .before .before .depth-numbers in
     let read = c .before .before .before .before .before .before in
     let l = read .before .before .loop in
-    let start = read .before .before .before .before .before .before .before in
+    let start = read .before .before .before .before .before in
     let s = start .args .sheet .now in
     let pre = start .pre in
     let i : l .i < depth-count s = omega (arith, read .before .loop-test .taken, l .inv .1) in
     let z = read .four-bytes .ensures .0 ∙ depth-read s (l .i) (l .at) i (l .inv .3) in
-    let e : row .result ≡ at-depth s (l .i) = row .ensures ∙ rw (pre .2, z) refl in (
+    let e : row .result ≡ at-depth s (l .i) = row .ensures ∙ rw (pre .3, z) refl in (
       omega (arith, read .before .loop-test .taken),
       l .inv .1,
       ap length (stored .ensures) ∙ length-sets (l .list) (8 * l .i) (row .result) ∙ l .inv .2,
@@ -104,7 +108,7 @@ same-length c = search needs
 returns : tie.Need-returns Inv-loop μ-loop
 returns c =
     let l = c .before .loop in
-    let s = c .before .before .before .before .before .before .args .sheet .now in
+    let s = c .before .before .before .before .args .sheet .now in
     sym (l .inv .4 ∙ each-done (at-depth s) (l .list) (8 * l .i) (depth-count s) (l .i) (omega (arith, c .loop-test .left, l .inv .1)))
 
 pub fill-depths-spec : {M : Type 1} → statement M
@@ -113,8 +117,6 @@ fill-depths-spec =
     (tie.spec
     Inv-loop
     μ-loop
-    depth-count-requires
-    payload-place-requires
     loop-holds
     four-bytes-requires
     depth-numbers-requires

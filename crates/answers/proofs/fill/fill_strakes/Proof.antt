@@ -1,62 +1,74 @@
--- `answers::fill::fill_strakes` meets its contract. The invariant: the state is that after k strakes, and what is to be stored in all
--- from `at` is what is still to be stored from `at + k`.
+-- `answers::fill::fill_strakes` meets its contract. The invariant: the state is that after the strakes passed, and what is to be stored in
+-- all from `at` is what is still to be stored behind their numbers. A strake's edge is the sum of the heights down to it by `edge-after`,
+-- through `next-edge`.
 -- Assumes nothing.
-use Prim.Native.Nat.{_+_, _-_, _≤_}
+use Prim.Native.Nat.{suc, _+_, _-_, _≤_}
 use mathlib.Core.Path.{_≡_, refl, ap, sym, _∙_}
 use borrow.Author.Needs.{needs}
+use native.Mathlib.Numerals.{add-one}
 use native.Mathlib.Omega.{arith}
-use lib.ListN.{length, take, length-set}
+use lib.ListN.{length, getD, take, length-set}
 use lib.Seq.{sets, length-take-le}
-use Rattle.description.specs.Silo.{sum}
-use Rattle.description.specs.program.Wall.{wall-top, wall-lowered}
+use Rattle.description.specs.declared.WallState.{WallState}
+use Rattle.description.specs.program.Wall.{wall-top, wall-lowered, wall-after}
+use Rattle.description.proofs.Walls.{passed-after}
 use Rattle.loads.specs.Load.{load-depth}
 use Rattle.answers.specs.program.Fill.{each, at-strake, strake-numbers}
 use Rattle.answers.proofs.Stores.{each-next, each-done}
-use Rattle.answers.proofs.Edges.{above-foot, passed, next-edge, next-inside, passed-next, among-strakes}
+use Rattle.answers.proofs.Edges.{above-foot, next-edge, next-inside, next-state}
 use Rattle.answers.proofs.fill.fill_strakes.Statement.{statement}
 use Rattle.answers.proofs.fill.fill_strakes.Tie as tie
 
 abbrev Inv-loop : tie.InvT-loop
-Inv-loop entries basis wall list₀ at count state₀ k₀ list state k =
-    (k ≤ count) × (count ≡ wall .count) × (length list ≡ length list₀) × (state ≡ passed wall k)
-    × (sets list₀ at (strake-numbers (basis .silo) (take (wall .count) (wall .heights)))
-    ≡ sets list (at + k) (each (at-strake (basis .silo) (take (wall .count) (wall .heights))) k (wall .count - k)))
+Inv-loop entries basis heights count list₀ at state₀ list state =
+    (state .passed ≤ count) × (length list ≡ length list₀) × (state ≡ wall-after heights (state .passed))
+    × (sets list₀ at (strake-numbers (basis .silo) (take count heights))
+    ≡ sets list (at + state .passed) (each (at-strake (basis .silo) (take count heights)) (state .passed) (count - state .passed)))
 
 abbrev μ-loop : tie.MeasureT-loop
-μ-loop entries basis wall list₀ at count state₀ k₀ list state k = count - k
+μ-loop entries basis heights count list₀ at state₀ list state = count - state .passed
 
 top-requires : tie.Need-top-requires Inv-loop μ-loop
 top-requires c κs = search needs
 
 loop-holds : tie.Need-loop-holds Inv-loop μ-loop
-unfolding wall-top sum
+unfolding wall-top wall-after
 loop-holds c =
     let start = c .before .before in
     let a = start .args in
-    let w = a .wall in
-    let n : length (take (w .count) (w .heights)) ≡ w .count - 0 = omega (arith, length-take-le (w .count) (w .heights) (omega (arith, start .pre))) in
+    let n : length (take (a .count) (a .heights .now)) ≡ a .count - 0 = omega (arith, length-take-le (a .count) (a .heights .now) (omega (arith, start .pre))) in
     let e : a .at + 0 ≡ a .at = omega arith in
-    (omega arith, refl, refl, c .top .ensures, rw (n, e) refl)
+    rw (c .top .ensures) (omega arith, refl, refl, rw (n, e) refl)
+
+mul-lowered : tie.Need-mul-lowered Inv-loop μ-loop
+mul-lowered c = search needs
+
+element-copy-out-lowered : tie.Need-element-copy-out-lowered Inv-loop μ-loop
+element-copy-out-lowered c = search needs
 
 lowered-requires : tie.Need-lowered-requires Inv-loop μ-loop
-unfolding load-depth
+unfolding load-depth wall-lowered
 lowered-requires c κs =
-    let l = c .before .loop in
-    let start = c .before .before .before .before in
-    let w = start .args .wall in
-    let t = c .loop-test .taken in
-    let h : w .count ≤ length (w .heights) = omega (arith, start .pre) in
-    rw (l .inv .3) (omega (arith, start .pre), omega (arith, next-edge w (l .k) t h, next-inside w (l .k) t h, start .pre .4 .wall))
+    let l = c .before .before .before .loop in
+    let start = c .before .before .before .before .before .before in
+    let a = start .args in
+    let k = l .state .passed in
+    let test = c .before .if1 .taken in
+    let fits : a .count ≤ length (a .heights .now) = omega (arith, start .pre) in
+    let e : l .state .edge + getD (a .heights .now) k 0 ≡ wall-after (a .heights .now) (suc k) .edge =
+    ap (λ (t : WallState). t .edge) (next-state (a .heights .now) (a .count) k test fits (l .inv .2)) in
+    (omega (arith, test, start .pre), omega (arith, e, next-inside (a .heights .now) (a .count) k test fits, start .pre .4 .wall))
 
 strake-number-requires : tie.Need-strake-number-requires Inv-loop μ-loop
 strake-number-requires c κs =
-    let l = c .before .before .loop in
-    let start = c .before .before .before .before .before in
-    let w = start .args .wall in
-    let t = c .before .loop-test .taken in
-    let h : w .count ≤ length (w .heights) = omega (arith, start .pre) in
-    let down = c .lowered .ensures ∙ ap (wall-lowered w) (l .inv .3) ∙ passed-next w (l .k) t h in
-    (start .pre .0, start .pre .1, rw down (above-foot (start .args .basis .silo) (start .pre .4) (next-inside w (l .k) t h)))
+    let l = c .before .before .before .before .loop in
+    let start = c .before .before .before .before .before .before .before in
+    let a = start .args in
+    let k = l .state .passed in
+    let test = c .before .before .if1 .taken in
+    let fits : a .count ≤ length (a .heights .now) = omega (arith, start .pre) in
+    let down = c .lowered .ensures ∙ next-state (a .heights .now) (a .count) k test fits (l .inv .2) in
+    (start .pre .0, start .pre .1, rw down (above-foot (a .basis .silo) (start .pre .4) (next-inside (a .heights .now) (a .count) k test fits)))
 
 add-list : tie.Need-add-list Inv-loop μ-loop
 add-list c = search needs
@@ -67,28 +79,27 @@ mul-list c = search needs
 slice-write-list : tie.Need-slice-write-list Inv-loop μ-loop
 slice-write-list c = search needs
 
-add-k : tie.Need-add-k Inv-loop μ-loop
-add-k c = search needs
-
 loop-less : tie.Need-loop-less Inv-loop μ-loop
-loop-less c = search needs
+unfolding wall-lowered
+loop-less c = omega (arith, ap (λ (t : WallState). t .passed) (c .before .lowered .ensures), c .before .before .before .if1 .taken)
 
 loop-again : tie.Need-loop-again Inv-loop μ-loop
 loop-again c =
-    let l = c .before .before .before .loop in
-    let start = c .before .before .before .before .before .before in
+    let l = c .before .before .before .before .before .loop in
+    let start = c .before .before .before .before .before .before .before .before in
     let a = start .args in
-    let w = a .wall in
-    let t = c .before .before .loop-test .taken in
-    let h : w .count ≤ length (w .heights) = omega (arith, start .pre) in
-    let down = c .before .lowered .ensures ∙ ap (wall-lowered w) (l .inv .3) ∙ passed-next w (l .k) t h in (
-      omega (arith, t),
-      refl,
-      simp length-set (l .inv .2),
-      down,
-      l .inv .4
-          ∙ each-next (at-strake (a .basis .silo) (take (w .count) (w .heights))) (l .list) (a .at + l .k) (a .at + (l .k + 1)) (w .count) (l .k) t (omega arith)
-          ∙ rw (among-strakes w (l .k) t h, c .strake-number .ensures, down) refl,
+    let heights = a .heights .now in
+    let k = l .state .passed in
+    let test = c .before .before .before .if1 .taken in
+    let fits : a .count ≤ length heights = omega (arith, start .pre) in
+    let down = c .before .lowered .ensures ∙ next-state heights (a .count) k test fits (l .inv .2) in
+    let n : c .before .lowered .result .passed ≡ suc k = ap (λ (t : WallState). t .passed) down ∙ passed-after heights (suc k) in (
+      omega (arith, n, test),
+      simp length-set (l .inv .1),
+      down ∙ ap (wall-after heights) (sym n),
+      l .inv .3
+          ∙ each-next (at-strake (a .basis .silo) (take (a .count) heights)) (l .list) (a .at + k) (a .at + suc k) (a .count) k test (omega arith)
+          ∙ rw (n, add-one, c .strake-number .ensures, down, next-edge heights (a .count) k test fits) refl,
     )
 
 same-length : tie.Need-same-length Inv-loop μ-loop
@@ -96,11 +107,11 @@ same-length c = search needs
 
 returns : tie.Need-returns Inv-loop μ-loop
 returns c =
-    let l = c .before .loop in
-    let a = c .before .before .before .before .args in
+    let l = c .before .before .loop in
+    let a = c .before .before .before .before .before .args in
     sym
-    (l .inv .4
-    ∙ each-done (at-strake (a .basis .silo) (take (a .wall .count) (a .wall .heights))) (l .list) (a .at + l .k) (a .wall .count) (l .k) (c .loop-test .left))
+    (l .inv .3
+    ∙ each-done (at-strake (a .basis .silo) (take (a .count) (a .heights .now))) (l .list) (a .at + l .state .passed) (a .count) (l .state .passed) (c .if1 .left))
 
 pub fill-strakes-spec : {M : Type 1} → statement M
 fill-strakes-spec =
@@ -110,12 +121,13 @@ fill-strakes-spec =
     μ-loop
     top-requires
     loop-holds
+    mul-lowered
+    element-copy-out-lowered
     lowered-requires
     strake-number-requires
     add-list
     mul-list
     slice-write-list
-    add-k
     loop-less
     loop-again
     same-length

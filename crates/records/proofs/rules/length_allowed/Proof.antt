@@ -1,35 +1,30 @@
--- A kind over 7 allows 0 bytes; no other has the step 0.
-use mathlib.Core.Path.{refl, sym}
-use native.Mathlib.Omega.{arith}
+-- By the kind; a kind of one length by its law.
+use mathlib.Core.Path.{refl, sym, _∙_, ap}
+use Prim.Native.Nat.{ℕ}
 use Rattle.records.specs.Format.{allowed}
-use Rattle.records.proofs.Records.{step-positive, other-allowed}
-use borrow.Author.Needs.{needs}
+use Rattle.records.proofs.Records.{circle-length, product-length, pair-length}
 use Rattle.records.proofs.rules.length_allowed.Statement.{statement}
 use Rattle.records.proofs.rules.length_allowed.Tie as tie
 
 returns : tie.Need-returns
-returns c = sym (other-allowed (c .before .args .kind) (c .before .args .length) (c .if1 .taken))
-
-mul-step : tie.Need-mul-step
-mul-step c = search needs
-
-array-read-step : tie.Need-array-read-step
-array-read-step c = search needs
-
-mul-result : tie.Need-mul-result
-mul-result c = search needs
-
-array-read-result : tie.Need-array-read-result
-array-read-result c = search needs
-
-rem-result : tie.Need-rem-result
-rem-result c = step-positive (c .before .args .kind) (omega arith)
+returns c = rw (c .match .keys1) (sym (circle-length (c .before .args .length)))
 
 returns-2 : tie.Need-returns-2
+returns-2 c = rw (c .match .keys2) (sym (product-length (c .before .args .length)))
+
+returns-3 : tie.Need-returns-3
 unfolding allowed
-returns-2 c = refl
+returns-3 c = rw (c .match .keys3) refl
+
+returns-4 : tie.Need-returns-4
+unfolding allowed
+returns-4 c = rw (c .match .keys4) refl
+
+returns-5 : tie.Need-returns-5
+returns-5 c =
+    let start = c .before in
+    let other = c .match .rest in
+    sym (pair-length (start .args .kind) (start .args .length) (start .pre .0) (start .pre .1) (other .0 .0 .0 .1) (other .0 .0 .1) (other .0 .1) (other .1))
 
 pub length-allowed-spec : {M : Type 1} → statement M
-length-allowed-spec =
-    tie.close
-    (tie.spec returns mul-step array-read-step mul-result array-read-result rem-result returns-2)
+length-allowed-spec = tie.close (tie.spec returns returns-2 returns-3 returns-4 returns-5)

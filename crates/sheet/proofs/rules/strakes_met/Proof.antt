@@ -1,74 +1,64 @@
--- The invariant: every strake is met when those before i are, as `met` tells, and those left are.
-use Prim.Native.Nat.{_+_, _*_, _-_, _≤_}
-use mathlib.Core.Bool.{_&&_, and-true}
-use mathlib.Core.Path.{_≡_, _∙_, ap, sym}
+-- The invariant: every strake before i is inside its limits, so what is due is what those left say.
+use Prim.Native.Nat.{_-_, _≤_}
+use mathlib.Core.Path.{_≡_, refl, sym, _∙_}
 use native.Mathlib.Omega.{arith}
-use denote.Ref.{now}
+use lib.ListN.{length, take, drop}
 use borrow.Author.Needs.{needs}
-use Rattle.records.specs.Format.{u16, numbers}
-use Rattle.records.proofs.Numbers.{numbers-start, numbers-next, numbers-end}
-use Rattle.description.specs.Silo.{strakes-of}
+use borrow.Author.Tests.{not-true, not-false}
 use Rattle.sheet.specs.Refusal.{strakes-met}
-use Rattle.sheet.proofs.Heights.{strakes-next}
+use Rattle.sheet.proofs.Heights.{strakes-next, strakes-done}
 use Rattle.sheet.proofs.rules.strakes_met.Statement.{statement}
 use Rattle.sheet.proofs.rules.strakes_met.Tie as tie
 
 abbrev Inv-loop : tie.InvT-loop
-Inv-loop sheet count at₀ met₀ i₀ at met i =
-    (i ≤ count) × (at ≤ 500000 + 2 * i)
-    × (strakes-met (strakes-of sheet) ≡ (met && strakes-met (numbers (u16 sheet) 2 at (count - i))))
+Inv-loop heights count i₀ i = (i ≤ count) × (strakes-met (take count heights) ≡ strakes-met (drop i (take count heights)))
 
 abbrev μ-loop : tie.MeasureT-loop
-μ-loop sheet count at₀ met₀ i₀ at met i = count - i
-
-strakes-requires : tie.Need-strakes-requires Inv-loop μ-loop
-strakes-requires c κs = search needs
-
-payload-place-requires : tie.Need-payload-place-requires Inv-loop μ-loop
-payload-place-requires c κs = search needs
+μ-loop heights count i₀ i = count - i
 
 loop-holds : tie.Need-loop-holds Inv-loop μ-loop
-unfolding strakes-of
-loop-holds c =
-    let s = now (c .before .before .before .args .sheet) in
-    (omega arith, omega arith, ap strakes-met (numbers-start (u16 s) 2 (c .payload-place .ensures .0) (c .before .strakes .ensures .0)))
+loop-holds c = (omega arith, refl)
 
-two-bytes-requires : tie.Need-two-bytes-requires Inv-loop μ-loop
-two-bytes-requires c κs = omega arith
+mul-between : tie.Need-mul-between Inv-loop μ-loop
+mul-between c = search needs
+
+element-copy-out-between : tie.Need-element-copy-out-between Inv-loop μ-loop
+element-copy-out-between c = search needs
 
 between-requires : tie.Need-between-requires Inv-loop μ-loop
 between-requires c κs = search needs
 
-add-at : tie.Need-add-at Inv-loop μ-loop
-add-at c = omega arith
+returns : tie.Need-returns Inv-loop μ-loop
+returns c =
+    let l = c .before .before .before .before .loop in
+    let start = c .before .before .before .before .before in
+    let a = start .args in
+    let e = sym (c .before .between .ensures) ∙ not-true _ (c .if1 .taken) in
+    sym (l .inv .1 ∙ strakes-next (a .heights .now) (a .count) (omega (arith, start .pre)) (l .i) (c .before .before .before .loop-test .taken) ∙ simp e)
 
 add-i : tie.Need-add-i Inv-loop μ-loop
-add-i c = omega arith
+add-i c = search needs
 
 loop-less : tie.Need-loop-less Inv-loop μ-loop
-loop-less c = omega arith
+loop-less c = search needs
 
 loop-again : tie.Need-loop-again Inv-loop μ-loop
 loop-again c =
-    let read = c .before in
-    let at = read .before .before in
-    let l = at .loop in
-    let s = now (at .before .before .before .before .args .sheet) in (
-      omega arith,
-      omega arith,
-      l .inv .2
-          ∙ ap (λ t. l .met && strakes-met t) (numbers-next (u16 s) 2 (l .at) (at .before .before .strakes .result) (l .i) (omega arith))
-          ∙ strakes-next (l .met) (u16 s (l .at)) _
-          ∙ simp (c .between .ensures, read .two-bytes .ensures .0),
+    let l = c .before .before .before .before .loop in
+    let start = c .before .before .before .before .before in
+    let a = start .args in
+    let test = c .before .before .before .loop-test .taken in
+    let e = sym (c .before .between .ensures) ∙ not-false _ (c .if1 .left) in (
+      omega (arith, test),
+      l .inv .1 ∙ strakes-next (a .heights .now) (a .count) (omega (arith, start .pre)) (l .i) test ∙ simp e,
     )
 
-returns : tie.Need-returns Inv-loop μ-loop
-unfolding strakes-met
-returns c =
-    let at = c .before in
-    let l = at .loop in
-    let s = now (at .before .before .before .before .args .sheet) in
-    sym (l .inv .2 ∙ ap (λ t. l .met && strakes-met t) (numbers-end (u16 s) 2 (l .at) (at .before .before .strakes .result) (l .i) (omega arith)) ∙ and-true (l .met))
+returns-2 : tie.Need-returns-2 Inv-loop μ-loop
+returns-2 c =
+    let l = c .before .loop in
+    let start = c .before .before in
+    let a = start .args in
+    sym (l .inv .1 ∙ strakes-done (a .heights .now) (a .count) (omega (arith, start .pre)) (l .i) (omega (arith, l .inv .0, c .loop-test .left)))
 
 pub strakes-met-spec : {M : Type 1} → statement M
 strakes-met-spec =
@@ -76,13 +66,12 @@ strakes-met-spec =
     (tie.spec
     Inv-loop
     μ-loop
-    strakes-requires
-    payload-place-requires
     loop-holds
-    two-bytes-requires
+    mul-between
+    element-copy-out-between
     between-requires
-    add-at
+    returns
     add-i
     loop-less
     loop-again
-    returns)
+    returns-2)

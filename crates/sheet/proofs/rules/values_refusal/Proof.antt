@@ -1,54 +1,59 @@
--- Each call's result is what it ensures; the rules tried one after the other give the first that is not met (`tried`).
-use mathlib.Core.Path.{refl}
-use denote.Ref.{now}
-use Rattle.records.proofs.Chain.{tried}
-use Rattle.description.specs.Silo.{h-of}
-use Rattle.sheet.specs.Refusal.{value-rules}
+-- Each return rewrites with the tests that led there: the rules before are met, and its own is not.
+use Prim.Native.Nat.{ℕ, _+_, _*_}
+use mathlib.Core.Bool.{Bool, _||_}
+use mathlib.Core.Path.{_≡_, sym, _∙_, ap, ap₂}
+use native.Mathlib.Omega.{arith}
+use lib.Dec.{ltb}
 use borrow.Author.Needs.{needs}
+use borrow.Author.Tests.{not-true, not-false}
+use Rattle.records.specs.Rules.{first-unmet}
+use Rattle.sheet.specs.Refusal.{eccentricities-met, flat, hopper}
+use Rattle.sheet.specs.program.Judged.{described-rules}
 use Rattle.sheet.proofs.rules.values_refusal.Statement.{statement}
 use Rattle.sheet.proofs.rules.values_refusal.Tie as tie
 
-read-section-requires : tie.Need-read-section-requires
-read-section-requires c κs = search needs
-
-shorter-side-requires : tie.Need-shorter-side-requires
-shorter-side-requires c κs = search needs
-
-read-bottom-requires : tie.Need-read-bottom-requires
-read-bottom-requires c κs = search needs
-
-wall-height-requires : tie.Need-wall-height-requires
-wall-height-requires c κs = search needs
-
-add-h : tie.Need-add-h
-add-h c = search needs
-
-height-met-requires : tie.Need-height-met-requires
-height-met-requires c κs = search needs
+-- a test of d_c, made with the number that was worked out for it
+of-width : (test : ℕ → Bool) {n dc : ℕ} {b : Bool} → n ≡ dc → test n ≡ b → test dc ≡ b
+of-width test e h = sym (ap test e) ∙ h
 
 sides-met-requires : tie.Need-sides-met-requires
 sides-met-requires c κs = search needs
 
-unless-requires : tie.Need-unless-requires
-unless-requires c κs = search needs
-
-read-product-sent-requires : tie.Need-read-product-sent-requires
-read-product-sent-requires c κs = search needs
+returns : tie.Need-returns
+unfolding described-rules first-unmet
+returns c =
+    simp (sym (c .before .sides-met .ensures) ∙ not-true _ (c .if1 .taken))
 
 product-met-requires : tie.Need-product-met-requires
 product-met-requires c κs = search needs
 
-unless-requires-2 : tie.Need-unless-requires-2
-unless-requires-2 c κs = search needs
+returns-2 : tie.Need-returns-2
+unfolding described-rules first-unmet
+returns-2 c =
+    let rule6 = c .before .before .before in
+    simp (
+      sym (rule6 .before .sides-met .ensures) ∙ not-false _ (rule6 .if1 .left),
+      sym (c .before .product-met .ensures) ∙ not-true _ (c .if2 .taken),
+    )
 
-read-eccentricities-requires : tie.Need-read-eccentricities-requires
-read-eccentricities-requires c κs = search needs
+shorter-side-requires : tie.Need-shorter-side-requires
+shorter-side-requires c κs = search needs
 
 eccentricities-met-requires : tie.Need-eccentricities-met-requires
 eccentricities-met-requires c κs = search needs
 
-unless-requires-3 : tie.Need-unless-requires-3
-unless-requires-3 c κs = search needs
+returns-3 : tie.Need-returns-3
+unfolding described-rules first-unmet
+returns-3 c =
+    let rule7 = c .before .before .before .before in
+    let rule6 = rule7 .before .before .before in
+    let d = rule6 .before .before .before .args .t2 in
+    let width = c .before .before .before .shorter-side .ensures .0 in
+    simp (
+      sym (rule6 .before .sides-met .ensures) ∙ not-false _ (rule6 .if1 .left),
+      sym (rule7 .before .product-met .ensures) ∙ not-false _ (rule7 .if2 .left),
+      of-width (λ (n : ℕ). eccentricities-met n (d .eccentricities)) width (sym (c .before .eccentricities-met .ensures) ∙ not-true _ (c .if3 .taken)),
+    )
 
 is-flat-requires : tie.Need-is-flat-requires
 is-flat-requires c κs = search needs
@@ -56,97 +61,130 @@ is-flat-requires c κs = search needs
 is-hopper-requires : tie.Need-is-hopper-requires
 is-hopper-requires c κs = search needs
 
-unless-requires-4 : tie.Need-unless-requires-4
-unless-requires-4 c κs = search needs
+returns-4 : tie.Need-returns-4
+unfolding described-rules first-unmet
+returns-4 c =
+    let rule8 = c .before .before .before .before in
+    let rule7 = rule8 .before .before .before .before in
+    let rule6 = rule7 .before .before .before in
+    let d = rule6 .before .before .before .args .t2 in
+    let width = rule8 .before .before .before .shorter-side .ensures .0 in
+    simp (
+      sym (rule6 .before .sides-met .ensures) ∙ not-false _ (rule6 .if1 .left),
+      sym (rule7 .before .product-met .ensures) ∙ not-false _ (rule7 .if2 .left),
+      of-width (λ (n : ℕ). eccentricities-met n (d .eccentricities)) width (sym (rule8 .before .eccentricities-met .ensures) ∙ not-false _ (rule8 .if3 .left)),
+      of-width (λ (n : ℕ). flat (d .bottom) || hopper n (d .bottom)) width (sym (ap₂ _||_ (c .before .before .is-flat .ensures) (c .before .is-hopper .ensures)) ∙ not-true _ (c .if4 .taken)),
+    )
 
 strakes-met-requires : tie.Need-strakes-met-requires
 strakes-met-requires c κs = search needs
 
-unless-requires-5 : tie.Need-unless-requires-5
-unless-requires-5 c κs = search needs
+returns-5 : tie.Need-returns-5
+unfolding described-rules first-unmet
+returns-5 c =
+    let rule9 = c .before .before .before .before in
+    let rule8 = rule9 .before .before .before .before in
+    let rule7 = rule8 .before .before .before .before in
+    let rule6 = rule7 .before .before .before in
+    let d = rule6 .before .before .before .args .t2 in
+    let width = rule8 .before .before .before .shorter-side .ensures .0 in
+    simp (
+      sym (rule6 .before .sides-met .ensures) ∙ not-false _ (rule6 .if1 .left),
+      sym (rule7 .before .product-met .ensures) ∙ not-false _ (rule7 .if2 .left),
+      of-width (λ (n : ℕ). eccentricities-met n (d .eccentricities)) width (sym (rule8 .before .eccentricities-met .ensures) ∙ not-false _ (rule8 .if3 .left)),
+      of-width (λ (n : ℕ). flat (d .bottom) || hopper n (d .bottom)) width (sym (ap₂ _||_ (rule9 .before .before .is-flat .ensures) (rule9 .before .is-hopper .ensures)) ∙ not-false _ (rule9 .if4 .left)),
+      sym (c .before .strakes-met .ensures) ∙ not-true _ (c .if5 .taken),
+    )
 
 depths-met-requires : tie.Need-depths-met-requires
 depths-met-requires c κs = search needs
 
-unless-requires-6 : tie.Need-unless-requires-6
-unless-requires-6 c κs = search needs
-
-unless-requires-7 : tie.Need-unless-requires-7
-unless-requires-7 c κs = search needs
-
-returns : tie.Need-returns
-unfolding value-rules h-of
-returns c =
-    let at6 = c .before in
-    let depths = at6 .before in
-    let at5 = depths .before in
-    let strakes = at5 .before in
-    let at4 = strakes .before in
-    let hopper = at4 .before in
-    let flat = hopper .before in
-    let at3 = flat .before in
-    let central = at3 .before in
-    let apart = central .before in
-    let at2 = apart .before in
-    let product = at2 .before in
-    let sent = product .before in
-    let at1 = sent .before in
-    let sides = at1 .before in
-    let high = sides .before in
-    let known = high .before in
-    let wall = known .before in
-    let bottom = wall .before in
-    let width = bottom .before in
-    let section = width .before in
+returns-6 : tie.Need-returns-6
+unfolding described-rules first-unmet
+returns-6 c =
+    let rule10 = c .before .before .before in
+    let rule9 = rule10 .before .before .before .before in
+    let rule8 = rule9 .before .before .before .before in
+    let rule7 = rule8 .before .before .before .before in
+    let rule6 = rule7 .before .before .before in
+    let d = rule6 .before .before .before .args .t2 in
+    let width = rule8 .before .before .before .shorter-side .ensures .0 in
     simp (
-      c .unless7 .ensures,
-      at6 .unless6 .ensures,
-      depths .depths-met .ensures,
-      at5 .unless5 .ensures,
-      strakes .strakes-met .ensures,
-      at4 .unless4 .ensures,
-      hopper .is-hopper .ensures,
-      flat .is-flat .ensures,
-      at3 .unless3 .ensures,
-      central .eccentricities-met .ensures,
-      apart .read-eccentricities .ensures .0,
-      at2 .unless2 .ensures,
-      product .product-met .ensures,
-      sent .read-product-sent .ensures,
-      at1 .unless .ensures,
-      sides .sides-met .ensures,
-      high .height-met .ensures,
-      wall .wall-height .ensures .0,
-      bottom .read-bottom .ensures .0,
-      width .shorter-side .ensures .0,
-      section .read-section .ensures .0,
+      sym (rule6 .before .sides-met .ensures) ∙ not-false _ (rule6 .if1 .left),
+      sym (rule7 .before .product-met .ensures) ∙ not-false _ (rule7 .if2 .left),
+      of-width (λ (n : ℕ). eccentricities-met n (d .eccentricities)) width (sym (rule8 .before .eccentricities-met .ensures) ∙ not-false _ (rule8 .if3 .left)),
+      of-width (λ (n : ℕ). flat (d .bottom) || hopper n (d .bottom)) width (sym (ap₂ _||_ (rule9 .before .before .is-flat .ensures) (rule9 .before .is-hopper .ensures)) ∙ not-false _ (rule9 .if4 .left)),
+      sym (rule10 .before .strakes-met .ensures) ∙ not-false _ (rule10 .if5 .left),
+      sym (c .before .depths-met .ensures) ∙ not-true _ (c .if6 .taken),
     )
-    (tried (value-rules (now (section .before .before .args .sheet))) refl)
+
+add-height-met : tie.Need-add-height-met
+add-height-met c = search needs
+
+height-met-requires : tie.Need-height-met-requires
+height-met-requires c κs = search needs
+
+returns-7 : tie.Need-returns-7
+unfolding described-rules first-unmet
+returns-7 c =
+    let rule11 = c .before .before .before in
+    let rule10 = rule11 .before .before .before in
+    let rule9 = rule10 .before .before .before .before in
+    let rule8 = rule9 .before .before .before .before in
+    let rule7 = rule8 .before .before .before .before in
+    let rule6 = rule7 .before .before .before in
+    let d = rule6 .before .before .before .args .t2 in
+    let width = rule8 .before .before .before .shorter-side .ensures .0 in
+    simp (
+      sym (rule6 .before .sides-met .ensures) ∙ not-false _ (rule6 .if1 .left),
+      sym (rule7 .before .product-met .ensures) ∙ not-false _ (rule7 .if2 .left),
+      of-width (λ (n : ℕ). eccentricities-met n (d .eccentricities)) width (sym (rule8 .before .eccentricities-met .ensures) ∙ not-false _ (rule8 .if3 .left)),
+      of-width (λ (n : ℕ). flat (d .bottom) || hopper n (d .bottom)) width (sym (ap₂ _||_ (rule9 .before .before .is-flat .ensures) (rule9 .before .is-hopper .ensures)) ∙ not-false _ (rule9 .if4 .left)),
+      sym (rule10 .before .strakes-met .ensures) ∙ not-false _ (rule10 .if5 .left),
+      sym (rule11 .before .depths-met .ensures) ∙ not-false _ (rule11 .if6 .left),
+      of-width (λ (n : ℕ). ltb (d .wall .foot + d .bottom .height) (10 * n)) width (sym (c .before .height-met .ensures) ∙ not-true _ (c .if7 .taken)),
+    )
+
+returns-8 : tie.Need-returns-8
+unfolding described-rules first-unmet
+returns-8 c =
+    let rule11 = c .before .before .before in
+    let rule10 = rule11 .before .before .before in
+    let rule9 = rule10 .before .before .before .before in
+    let rule8 = rule9 .before .before .before .before in
+    let rule7 = rule8 .before .before .before .before in
+    let rule6 = rule7 .before .before .before in
+    let d = rule6 .before .before .before .args .t2 in
+    let width = rule8 .before .before .before .shorter-side .ensures .0 in
+    simp (
+      sym (rule6 .before .sides-met .ensures) ∙ not-false _ (rule6 .if1 .left),
+      sym (rule7 .before .product-met .ensures) ∙ not-false _ (rule7 .if2 .left),
+      of-width (λ (n : ℕ). eccentricities-met n (d .eccentricities)) width (sym (rule8 .before .eccentricities-met .ensures) ∙ not-false _ (rule8 .if3 .left)),
+      of-width (λ (n : ℕ). flat (d .bottom) || hopper n (d .bottom)) width (sym (ap₂ _||_ (rule9 .before .before .is-flat .ensures) (rule9 .before .is-hopper .ensures)) ∙ not-false _ (rule9 .if4 .left)),
+      sym (rule10 .before .strakes-met .ensures) ∙ not-false _ (rule10 .if5 .left),
+      sym (rule11 .before .depths-met .ensures) ∙ not-false _ (rule11 .if6 .left),
+      of-width (λ (n : ℕ). ltb (d .wall .foot + d .bottom .height) (10 * n)) width (sym (c .before .height-met .ensures) ∙ not-false _ (c .if7 .left)),
+    )
 
 pub values-refusal-spec : {M : Type 1} → statement M
 values-refusal-spec =
     tie.close
     (tie.spec
-    read-section-requires
-    shorter-side-requires
-    read-bottom-requires
-    wall-height-requires
-    add-h
-    height-met-requires
     sides-met-requires
-    unless-requires
-    read-product-sent-requires
+    returns
     product-met-requires
-    unless-requires-2
-    read-eccentricities-requires
+    returns-2
+    shorter-side-requires
     eccentricities-met-requires
-    unless-requires-3
+    returns-3
     is-flat-requires
     is-hopper-requires
-    unless-requires-4
+    returns-4
     strakes-met-requires
-    unless-requires-5
+    returns-5
     depths-met-requires
-    unless-requires-6
-    unless-requires-7
-    returns)
+    returns-6
+    add-height-met
+    height-met-requires
+    returns-7
+    returns-8)

@@ -1,0 +1,21 @@
+-- The rules of a sheet's values, as the program tries them on the silo described.
+use Prim.Native.Nat.{ℕ, _+_, _*_}
+use mathlib.Core.Bool.{_||_}
+use mathlib.Core.List.{List, [], _∷_}
+use lib.Dec.{ltb}
+use lib.ListN.{take}
+use Rattle.janssen.specs.Section.{d-c}
+use Rattle.description.specs.declared.Described.{Described}
+use Rattle.records.specs.Rules.{Rule, _unless_}
+use Rattle.sheet.specs.Refusal.{sides-met, product-met, eccentricities-met, flat, hopper, strakes-met, depths-met}
+
+unfoldable pub described-rules : Described → List ℕ → List Rule
+described-rules d depths =
+    6 unless sides-met (d .section)
+    ∷ 7 unless product-met (d .product)
+    ∷ 8 unless eccentricities-met (d-c (d .section)) (d .eccentricities)
+    ∷ 9 unless (flat (d .bottom) || hopper (d-c (d .section)) (d .bottom))
+    ∷ 10 unless strakes-met (take (d .wall .count) (d .wall .heights))
+    ∷ 11 unless depths-met (d .wall .foot) 0 depths
+    ∷ 12 unless ltb (d .wall .foot + d .bottom .height) (10 * d-c (d .section))
+    ∷ []
