@@ -3,6 +3,7 @@
 --     skipped        no refusal in the first part: the refusal is that of the second
 --     stopped        a refusal in the first part is the refusal of the whole
 --     apart          no refusal in the whole: none in each part
+--     next, last     the rules tried one after the other: one that is met leaves those behind it; one that is not is the refusal
 --     absent         a number that no rule has is never the refusal
 -- A refusal is told from 0 by its number, so that the numbers have to be positive (`numbered`): a test that computes for every chain.
 use Prim.Native.Nat.{ℕ, zero, suc, _<_}
@@ -12,6 +13,7 @@ use mathlib.Core.Path.{_≡_, refl, sym, _∙_}
 use native.Mathlib.Omega.{arith}
 use borrow.Author.Tests.{eq-eqb}
 use lib.Dec.{eqb}
+use lib.ListN.{drop}
 use Rattle.records.specs.Rules.{Rule, _unless_, first-unmet}
 use Rattle.records.proofs.Tests.{absurd, both-true, either-right}
 
@@ -71,6 +73,25 @@ module _ (b : List Rule) where
       let m = first-met (r .number) (r .met) (a ++ b) (q .0) h in
       let rest = apart a (q .1) (m .1) in
       (rw (m .0) (rest .0), rest .1)
+
+-- the number of rule i of a chain
+abbrev pub number-at : List Rule → ℕ → ℕ
+number-at [] i = 0
+number-at (r ∷ l) zero = r .number
+number-at (r ∷ l) (suc i) = number-at l i
+
+pub next : (l : List Rule) (i : ℕ) → met-at l i ≡ true → first-unmet (drop i l) ≡ first-unmet (drop (suc i) l)
+unfolding first-unmet
+next [] zero h = refl
+next [] (suc i) h = refl
+next (r ∷ l) zero h = rw h refl
+next (r ∷ l) (suc i) h = next l i h
+
+pub last : (l : List Rule) (i : ℕ) → met-at l i ≡ false → first-unmet (drop i l) ≡ number-at l i
+unfolding first-unmet
+last [] i h = absurd (false≢true (sym h))
+last (r ∷ l) zero h = rw h refl
+last (r ∷ l) (suc i) h = last l i h
 
 -- whether a number is that of a rule
 abbrev pub has : List Rule → ℕ → Bool
