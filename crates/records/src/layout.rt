@@ -7,8 +7,7 @@ ghost use Rattle.records.specs.program.Reader.{Located};
 use crate::reader::read_record;
 use crate::rules::record_refusal;
 
-// The first refusal of rules 2 to 5: the six records in order, and nothing left over. Without a refusal, 0 and the places where the
-// records begin; the last is where the sixth ends.
+// Rules 2 to 5: the six records in order, and nothing left over.
 fn locate(sheet: &[u8], places: &mut [usize; 7]) -> u32
     requires { ⌜ length (now places) ≡ 7 ⌝ }
     ensures { λ r. ⌜ (r ≡ first-unmet (records-rules (now (sheet .entry)) 6 0)) × (r ≡ 0 → Located (now (sheet .entry)) (now (places .exit))) ⌝ }
@@ -32,7 +31,7 @@ fn locate(sheet: &[u8], places: &mut [usize; 7]) -> u32
     0
 }
 
-// Rules 1 to 5.
+// The first refusal of rules 1 to 5; or 0, with the places where the six records begin, and behind them where the last ends.
 pub fn find_records(sheet: &[u8], places: &mut [usize; 7]) -> u32
     requires { ⌜ length (now places) ≡ 7 ⌝ }
     ensures { λ r. ⌜ (r ≡ first-unmet (layout-rules (now (sheet .entry)))) × (r ≡ 0 → Located (now (sheet .entry)) (now (places .exit))) ⌝ }

@@ -1,20 +1,25 @@
--- The rules of the record, said of what was read (`judged`); each return rewrites with the tests that led there.
+-- The rules of the record, said of what was read (`judged`) and tried one after the other.
 use Prim.Native.Nat.{ℕ, _+_}
 use mathlib.Core.List.{List, [], _∷_}
-use mathlib.Core.Path.{_≡_, refl, sym, _∙_}
+use mathlib.Core.Bool.{true}
+use mathlib.Core.Path.{_≡_, refl, ap, sym, _∙_}
 use native.Mathlib.Omega.{arith}
 use lib.Dec.{leb}
-use lib.ListN.{length}
-use denote.Ref.{now}
+use lib.ListN.{length, drop}
 use borrow.Author.Needs.{needs}
 use borrow.Author.Tests.{le-leb, lt-leb, not-true, not-false}
 use Rattle.records.specs.Rules.{Rule, _unless_, first-unmet}
 use Rattle.records.specs.Format.{due, allowed, record-rules}
 use Rattle.records.specs.program.Reader.{Stands}
 use Rattle.records.specs.declared.reader.Record.{Record}
+use Rattle.records.proofs.Chain.{next, last}
 use Rattle.records.proofs.Records.{due-kind}
 use Rattle.records.proofs.rules.record_refusal.Statement.{statement}
 use Rattle.records.proofs.rules.record_refusal.Tie as tie
+use Rattle.records.proofs.rules.record_refusal.Reads as reads
+use Rattle.records.proofs.rules.record_refusal.Lts as lts
+use Rattle.records.proofs.rules.kind_due.Reads as kind-due-reads
+use Rattle.records.proofs.rules.length_allowed.Reads as length-allowed-reads
 
 abbrev of-read : List ℕ → Record → ℕ → List Rule
 of-read s f k =
@@ -28,78 +33,79 @@ judged : (s : List ℕ) (f : Record) (k : ℕ) → Stands s (f .place) f → rec
 unfolding record-rules
 judged s f k e = rw (e .started, e .kinded, e .sized) refl
 
+abbrev calls : lts.Claims
+calls = (kind-due-reads.Asked, kind-due-reads.Learnt, length-allowed-reads.Asked, length-allowed-reads.Learnt)
+
+abbrev Start : Type 0
+Start = lts.Start calls reads.Pre reads.Post
+
+abbrev read : Start → List Rule
+read s = of-read (s .args .sheet .now) (s .args .found) (s .args .k)
+
+abbrev due-of : Start → ℕ
+due-of s = first-unmet (record-rules (s .args .sheet .now) (s .args .found .place) (s .args .k))
+
+of-start : (s : Start) → due-of s ≡ first-unmet (read s)
+of-start s = ap first-unmet (judged (s .args .sheet .now) (s .args .found) (s .args .k) (s .pre .0))
+
+-- where the header is there, the kind due, the length allowed: what is due is the first refusal of the rules behind
+abbrev start-1 : lts.Else1 calls reads.Pre reads.Post → Start
+start-1 x = x .before .before .before
+
+abbrev start-2 : lts.Else2 calls reads.Pre reads.Post → Start
+start-2 x = start-1 (x .before .before)
+
+abbrev start-3 : lts.Else3 calls reads.Pre reads.Post → Start
+start-3 x = start-2 (x .before .before)
+
+header-there : (x : lts.Else1 calls reads.Pre reads.Post) → due-of (start-1 x) ≡ first-unmet (drop 1 (read (start-1 x)))
+header-there x = of-start (start-1 x) ∙ next (read (start-1 x)) 0 (le-leb _ _ (x .if1 .left))
+
+kind-is-due : (x : lts.Else2 calls reads.Pre reads.Post) → due (start-2 x .args .k) (start-2 x .args .found .kind) ≡ true
+kind-is-due x = sym (x .before .kind-due .ensures) ∙ not-false _ (x .if2 .left)
+
+kind-right : (x : lts.Else2 calls reads.Pre reads.Post) → due-of (start-2 x) ≡ first-unmet (drop 2 (read (start-2 x)))
+kind-right x = header-there (x .before .before) ∙ next (read (start-2 x)) 1 (kind-is-due x)
+
+length-right : (x : lts.Else3 calls reads.Pre reads.Post) → due-of (start-3 x) ≡ first-unmet (drop 3 (read (start-3 x)))
+length-right x =
+    kind-right (x .before .before)
+    ∙ next (read (start-3 x)) 2 (sym (x .before .length-allowed .ensures) ∙ not-false _ (x .if3 .left))
+
 returns : tie.Need-returns
-unfolding first-unmet
-returns c =
-    let start = c .before .before .before in
-    let a = start .args in
-    rw (judged (now (a .sheet)) (a .found) (a .k) (start .pre .0)) (simp (lt-leb _ _ (c .if1 .taken)))
+returns c = let start = c .before .before .before in sym (of-start start ∙ last (read start) 0 (lt-leb _ _ (c .if1 .taken)))
 
 kind-due-requires : tie.Need-kind-due-requires
 kind-due-requires c κs = search needs
 
 returns-2 : tie.Need-returns-2
-unfolding first-unmet
 returns-2 c =
-    let header = c .before .before in
-    let start = header .before .before .before in
-    let a = start .args in
-    rw (judged (now (a .sheet)) (a .found) (a .k) (start .pre .0))
-    (simp (le-leb _ _ (header .if1 .left), sym (c .before .kind-due .ensures) ∙ not-true _ (c .if2 .taken)))
+    let before = c .before .before in
+    sym (header-there before ∙ last (read (start-1 before)) 1 (sym (c .before .kind-due .ensures) ∙ not-true _ (c .if2 .taken)))
 
 length-allowed-requires : tie.Need-length-allowed-requires
 length-allowed-requires c κs =
-    let a = c .before .before .before .before .before .args in
-    due-kind (a .k) (a .found .kind) (omega arith) (sym (c .before .kind-due .ensures) ∙ not-false _ (c .if2 .left))
+    let a = start-2 c .args in
+    due-kind (a .k) (a .found .kind) (omega arith) (kind-is-due c)
 
 returns-3 : tie.Need-returns-3
-unfolding first-unmet
 returns-3 c =
-    let due = c .before .before in
-    let header = due .before .before in
-    let start = header .before .before .before in
-    let a = start .args in
-    rw (judged (now (a .sheet)) (a .found) (a .k) (start .pre .0))
-    (simp (
-      le-leb _ _ (header .if1 .left),
-      sym (due .before .kind-due .ensures) ∙ not-false _ (due .if2 .left),
-      sym (c .before .length-allowed .ensures) ∙ not-true _ (c .if3 .taken),
-    ))
+    let before = c .before .before in
+    sym (kind-right before ∙ last (read (start-2 before)) 2 (sym (c .before .length-allowed .ensures) ∙ not-true _ (c .if3 .taken)))
 
 add-if4 : tie.Need-add-if4
 add-if4 c = search needs
 
 returns-4 : tie.Need-returns-4
-unfolding first-unmet
 returns-4 c =
-    let allowed = c .before .before in
-    let due = allowed .before .before in
-    let header = due .before .before in
-    let start = header .before .before .before in
-    let a = start .args in
-    rw (judged (now (a .sheet)) (a .found) (a .k) (start .pre .0))
-    (simp (
-      le-leb _ _ (header .if1 .left),
-      sym (due .before .kind-due .ensures) ∙ not-false _ (due .if2 .left),
-      sym (allowed .before .length-allowed .ensures) ∙ not-false _ (allowed .if3 .left),
-      lt-leb _ _ (c .if4 .taken),
-    ))
+    let before = c .before .before in
+    sym (length-right before ∙ last (read (start-3 before)) 3 (lt-leb _ _ (c .if4 .taken)))
 
 returns-5 : tie.Need-returns-5
 unfolding first-unmet
 returns-5 c =
-    let allowed = c .before .before in
-    let due = allowed .before .before in
-    let header = due .before .before in
-    let start = header .before .before .before in
-    let a = start .args in
-    rw (judged (now (a .sheet)) (a .found) (a .k) (start .pre .0))
-    (simp (
-      le-leb _ _ (header .if1 .left),
-      sym (due .before .kind-due .ensures) ∙ not-false _ (due .if2 .left),
-      sym (allowed .before .length-allowed .ensures) ∙ not-false _ (allowed .if3 .left),
-      le-leb _ _ (c .if4 .left),
-    ))
+    let before = c .before .before in
+    sym (length-right before ∙ next (read (start-3 before)) 3 (le-leb _ _ (c .if4 .left)))
 
 pub record-refusal-spec : {M : Type 1} → statement M
 record-refusal-spec =
