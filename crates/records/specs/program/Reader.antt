@@ -16,6 +16,5 @@ pub record Stands (s : List ℕ) (at : ℕ) (f : Record) : Type 0 where
 
 -- the places where the six records begin, and where the last ends: at the end of the sheet
 pub record Located (s places : List ℕ) : Type 0 where
-  pub seven : length places ≡ 7
   pub located : (k : ℕ) → k ≤ 6 → getD places k 0 ≡ place s k
   pub ends : place s 6 ≡ length s

@@ -102,7 +102,6 @@ returns-3 c =
     let before : (j : ℕ) → j < 6 → getD (l .places) j 0 ≡ place s j = λ j h. l .inv .4 j (omega (arith, h, whole)) in (
       rw (l .inv .5, records-end s (l .k) (omega arith), eq-eqb (place s (l .k)) (length s) (sym (l .inv .1) ∙ c .if2 .left)) refl,
       λ _. record {
-        seven = length-set (l .places) 6 (l .at) ∙ l .inv .3;
         located = λ j h. noted s (l .places) 6 (l .at) (omega (arith, l .inv .3)) at-end before j (omega (arith, h));
         ends = sym at-end ∙ c .if2 .left;
       },
