@@ -1,13 +1,11 @@
 /* before CALL SHEET: times a call of the library, loads or length, and the same of an earlier one, whose names begin with before_, in turns
  * and prints the median of the rounds' ratios. Both have to give the same list. */
+#include "before.h"
 #include "silo.h"
 #include "turns.h"
 #include <stdio.h>
 #include <stdlib.h>
 #include <string.h>
-
-uint32_t before_loads(const uint8_t *sheet, size_t sheet_len, uint32_t *answers, size_t answers_len);
-uint64_t before_answers_length(const uint8_t *sheet, size_t sheet_len);
 
 /* The time of one round in ns, at least. */
 static const double ROUND = 2e5;

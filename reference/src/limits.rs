@@ -266,19 +266,28 @@ fn whole_loads() -> Vec<(Silo, u64)> {
     (1..=30).flat_map(|weight| hoppers.map(|size| silo(weight, size))).collect()
 }
 
-/// Rules 1, 2 and 5: every sheet cut short, the whole one, and longer ones.
+/// The sample with as many strakes and depths as there may be.
+fn longest() -> Silo {
+    Silo { strakes: vec![2_000; 24], depths: (0..200).collect(), ..sample() }
+}
+
+/// Rules 1, 2 and 5: a short sheet and the longest there is, cut short at every byte, whole, and longer.
 fn cut_or_extended() -> Vec<Due> {
-    let whole = Silo { section: vec![5_000, 6_000], ..sample() }.sheet();
+    let sheets = [sample(), longest()].map(|silo| Silo { section: vec![5_000, 6_000], ..silo });
+    let zeros = [(4, 3), (1_024, 3), (1_025, 1)].map(|(length, due)| (vec![0; length], due));
+    sheets.iter().flat_map(|silo| of_every_length(&silo.sheet())).chain(zeros).collect()
+}
+
+fn of_every_length(whole: &[u8]) -> Vec<Due> {
     let cut = (0..whole.len()).map(|length| (whole[..length].to_vec(), 2));
     let longer = [(1, 5), (2, 5), (4, 5)].map(|(extra, due)| (whole.len() + extra, due));
     let lengths = longer.into_iter().chain([(1_023, 5), (1_024, 5), (1_025, 1), (65_536, 1)]);
     let extended = lengths.map(|(length, due)| {
-        let mut sheet = whole.clone();
+        let mut sheet = whole.to_vec();
         sheet.resize(length, 0);
         (sheet, due)
     });
-    let zeros = [(4, 3), (1_024, 3), (1_025, 1)].map(|(length, due)| (vec![0; length], due));
-    cut.chain(extended).chain(zeros).chain([(whole.clone(), 0)]).collect()
+    cut.chain(extended).chain([(whole.to_vec(), 0)]).collect()
 }
 
 /// A sheet's records, kind and payload.
@@ -336,10 +345,8 @@ fn lengths() -> Vec<Due> {
 
 /// The sample with depth 0 alone, and one payload from a sheet of the longest ones, cut to a length or extended.
 fn resized(place: usize, length: usize, due: u64) -> Due {
-    let depths = (0..200).collect();
-    let longest = Silo { strakes: vec![2_000; 24], depths, ..sample() }.sheet();
     let mut changed = records(&Silo { depths: vec![0], ..sample() }.sheet());
-    changed[place] = records(&longest).swap_remove(place);
+    changed[place] = records(&longest().sheet()).swap_remove(place);
     changed[place].1.resize(length, 0);
     (joined(&changed), due)
 }

@@ -196,6 +196,12 @@ fn taken_for(sheet: &[u8], list: &mut [u32], other: fn(Silo) -> Option<Silo>) ->
     }
 }
 
+/// The sheet without what is left over behind its sixth record.
+fn without_rest(sheet: &[u8]) -> &[u8] {
+    let mut starts = (0..sheet.len()).map(|end| &sheet[..end]);
+    starts.find(|start| records(start).is_ok()).unwrap_or(sheet)
+}
+
 /// Wrong answer lists.
 const LISTS: &[(&str, Loads)] = &[
     ("the deep limit at every depth", |sheet, list| {
@@ -270,6 +276,13 @@ const LISTS: &[(&str, Loads)] = &[
             let at = list.len() - silo.strakes.len();
             list[at..].rotate_right(1);
             list[at] = 0;
+        })
+    }),
+    ("strakes at edges without the first strake", |sheet, list| {
+        filled(sheet, list, |silo, list| {
+            let others = Silo { strakes: silo.strakes[1..].to_vec(), ..silo.clone() };
+            let at_edges = [vec![0], edge_pressures(&others)].concat();
+            put_strakes(silo, list, &Discharge::of(silo).c_h, at_edges);
         })
     }),
     ("p_hf one more at odd depths that are no lower edge", |sheet, list| {
@@ -385,6 +398,19 @@ const REFUSALS: &[(&str, Loads)] = &[
     }),
     ("takes e for e modulo 2^30", |sheet, list| {
         taken_for(sheet, list, |silo| Some(Silo { e_i: silo.e_i % (1 << 30), ..silo }))
+    }),
+    ("accepts bytes left over behind 200 depths", |sheet, list| {
+        let whole = if parse(sheet) == Err(5) { without_rest(sheet) } else { sheet };
+        match records(whole) {
+            Ok(silo) if silo.depths.len() == 200 => loads(whole, list),
+            _ => loads(sheet, list),
+        }
+    }),
+    ("judges the depths before the strakes", |sheet, list| {
+        taken_for(sheet, list, |silo| {
+            let wall = Silo { strakes: vec![3_000; 24], ..silo };
+            (parse(&wall.sheet()) == Err(11)).then_some(wall)
+        })
     }),
     ("judges the shape before the depths", |sheet, list| {
         taken_for(sheet, list, |silo| {

@@ -1,0 +1,333 @@
+/* alike [SHEETS [SEED]]: makes the load call and the length call of the library and of an earlier one, whose names begin with before_, on
+ * at least so many sheets, 8,000,000 where nothing is said: sheets of random silos inside and around every limit, the same damaged, random
+ * bytes. Both have to answer alike and leave alike lists, of the length due and of one less and one more, with all as it was where a call
+ * is refused. Prints the counts. Status 1: a difference, with the sheet in hexadecimal; or a refusal that was never reached. */
+#include "before.h"
+#include "sheet.h"
+#include "silo.h"
+#include <inttypes.h>
+#include <stdbool.h>
+#include <stdio.h>
+#include <stdlib.h>
+#include <string.h>
+
+/* Damaged sheets for each silo; numbers on each side of a list; the longest sheet of random bytes; room for any sheet. */
+enum { DAMAGED = 8, GUARDS = 4, LONGEST = 1100, ROOM = 4096 };
+
+/* The longest list, one more than any that is due, with its guards. */
+enum { LIST = GUARDS + MAX_ANSWERS + 1 + GUARDS };
+
+enum { RECORDS = 6, REFUSALS = 15, RETIRED = 13, WRONG_LENGTH = 14 };
+
+/* A record with the length and kind that its header states, and room for a number too many. */
+struct record {
+    uint32_t length, kind;
+    size_t size;
+    uint8_t payload[4 * (MAX_DEPTHS + 1)];
+};
+
+struct bytes {
+    uint8_t at[ROOM];
+    size_t length;
+};
+
+static uint64_t state, sheets, accepted, refused[REFUSALS];
+static uint32_t before[LIST], after[LIST], untouched[LIST];
+
+/* Numbers that are the same on every run (splitmix64). */
+static uint64_t next(void) {
+    uint64_t n = state += UINT64_C(0x9E3779B97F4A7C15);
+    n = (n ^ n >> 30) * UINT64_C(0xBF58476D1CE4E5B9);
+    n = (n ^ n >> 27) * UINT64_C(0x94D049BB133111EB);
+    return n ^ n >> 31;
+}
+
+static uint32_t below(uint32_t limit) {
+    return (uint32_t)(next() % limit);
+}
+
+static bool one_in(uint32_t n) {
+    return below(n) == 0;
+}
+
+/* From low to high, each end one time in eight more. */
+static uint32_t within(uint32_t low, uint32_t high) {
+    uint32_t any = low + below(high - low + 1), turn = below(8);
+    return turn == 0 ? low : turn == 1 ? high : any;
+}
+
+/* The least height that makes a hopper of that run steep enough. */
+static uint32_t flattest(uint32_t run) {
+    return (uint32_t)((UINT64_C(363971) * run + 999999) / 1000000);
+}
+
+static void draw_hopper(struct silo *s) {
+    uint32_t d_c = width_of(s), highest = 5 * d_c < 25000 ? 5 * d_c : 25000;
+    s->run = within(1, (d_c - 1) / 2);
+    s->hopper = within(flattest(s->run), highest);
+}
+
+/* Strakes that leave h below 10 d_c, where so many can. */
+static void draw_wall(struct silo *s) {
+    s->strake_count = within(1, MAX_STRAKES);
+    uint32_t highest = (10 * width_of(s) - s->hopper - 1) / s->strake_count;
+    highest = highest < 200 ? 200 : highest > 3000 ? 3000 : highest;
+    for (uint32_t i = 0; i < s->strake_count; i++)
+        s->strakes[i] = within(200, highest);
+}
+
+/* Depths down the wall, each leaving room for those after it; neighbouring millimetres and the foot are among them. */
+static void draw_depths(struct silo *s) {
+    uint32_t low = 0, foot = foot_of(s);
+    s->depth_count = one_in(8) ? within(1, MAX_DEPTHS) : within(1, 10);
+    for (uint32_t i = 0; i < s->depth_count; i++) {
+        uint32_t after_it = s->depth_count - i - 1, last = foot - after_it, far = low + 2 * (last - low) / (after_it + 1);
+        s->depths[i] = within(low, far < last ? far : last);
+        low = s->depths[i] + 1;
+    }
+}
+
+/* A silo inside the limits, but for narrow ones that many strakes make too high. */
+static struct silo draw(void) {
+    struct silo s = {0};
+    s.a = s.b = within(500, one_in(2) ? 5000 : 50000);
+    if (one_in(2))
+        *(one_in(2) ? &s.a : &s.b) = within(s.a, 50000);
+    s.weight = within(1000, 30000);
+    s.ratio = within(20, 100);
+    s.friction = within(10, 100);
+    s.factor = one_in(4) ? 0 : within(100, 200);
+    s.e_i = within(0, width_of(&s) / 4);
+    s.e_o = within(0, width_of(&s) / 4);
+    if (one_in(2))
+        draw_hopper(&s);
+    draw_wall(&s);
+    draw_depths(&s);
+    return s;
+}
+
+/* Moves one number to a limit, of the rules or of the discharge factors, or to either side of it. A circle stays one. */
+static void move(struct silo *s) {
+    uint32_t d_c = width_of(s), foot = foot_of(s), i = below(s->depth_count);
+    uint32_t *strake = &s->strakes[below(s->strake_count)], *depth = &s->depths[i];
+    const struct {
+        uint32_t *number, limit;
+    } limits[] = {
+        {&s->a, 0}, {&s->a, 500}, {&s->a, 50000}, {&s->b, 500}, {&s->b, 50000},
+        {&s->a, foot / 10}, {&s->a, foot - foot / 3}, {&s->a, foot},
+        {&s->weight, 0}, {&s->weight, 1000}, {&s->weight, 30000},
+        {&s->ratio, 20}, {&s->ratio, 100}, {&s->friction, 10}, {&s->friction, 100},
+        {&s->factor, 0}, {&s->factor, 100}, {&s->factor, 200},
+        {&s->e_i, d_c / 4}, {&s->e_i, 1 << 30}, {&s->e_o, d_c / 4}, {&s->e_o, 1 << 30},
+        {&s->run, 0}, {&s->run, d_c / 2}, {&s->run, UINT32_C(1) << 31}, {&s->run, s->hopper * 1000 / 364},
+        {&s->hopper, 0}, {&s->hopper, 25000}, {&s->hopper, flattest(s->run)},
+        {&s->hopper, 10 * d_c - foot}, {&s->hopper, d_c + d_c / 2 - foot}, {&s->hopper, d_c - foot},
+        {strake, 0}, {strake, 200}, {strake, 3000}, {strake, *strake + 10 * d_c - foot - s->hopper},
+        {depth, 0}, {depth, i == 0 ? 0 : depth[-1]}, {depth, foot},
+    };
+    bool circle = s->a == s->b;
+    uint32_t chosen = below(sizeof limits / sizeof *limits);
+    *limits[chosen].number = limits[chosen].limit + below(3) - 1;
+    if (circle)
+        s->b = s->a;
+}
+
+static void append(struct record *record, uint32_t number, int width) {
+    put(record->payload + record->size, number, width);
+    record->size += (size_t)width;
+    record->length = (uint32_t)record->size;
+}
+
+/* A circle may also be sent as a rectangle of equal sides. */
+static void put_records(const struct silo *s, struct record records[RECORDS]) {
+    bool circle = s->a == s->b && !one_in(8);
+    for (uint32_t i = 0; i < RECORDS; i++)
+        records[i] = (struct record){.kind = i == 0 && circle ? 1 : i + 2};
+    for (int i = circle; i < 2; i++)
+        append(&records[0], i == circle ? s->a : s->b, 4);
+    append(&records[1], s->weight, 4);
+    append(&records[1], s->ratio, 2);
+    append(&records[1], s->friction, 2);
+    append(&records[1], s->factor, 2);
+    append(&records[2], s->e_i, 4);
+    append(&records[2], s->e_o, 4);
+    append(&records[3], s->hopper, 4);
+    append(&records[3], s->run, 4);
+    for (uint32_t i = 0; i < s->strake_count; i++)
+        append(&records[4], s->strakes[i], 2);
+    for (uint32_t i = 0; i < s->depth_count; i++)
+        append(&records[5], s->depths[i], 4);
+}
+
+static void join(const struct record records[RECORDS], struct bytes *sheet) {
+    uint8_t *at = sheet->at;
+    for (int i = 0; i < RECORDS; i++) {
+        at = put(put(at, records[i].length, 2), records[i].kind, 2);
+        memcpy(at, records[i].payload, records[i].size);
+        at += records[i].size;
+    }
+    sheet->length = (size_t)(at - sheet->at);
+}
+
+/* Another number of strakes, of 200 mm, or of depths, from 0 mm on: none, one too many, the most, or any. */
+static void recount(struct record records[RECORDS]) {
+    bool strakes = one_in(2);
+    struct record *record = &records[strakes ? 4 : 5];
+    uint32_t most = strakes ? MAX_STRAKES : MAX_DEPTHS, counts[] = {0, most + 1, most, below(most)}, count = counts[below(4)];
+    record->size = record->length = 0;
+    for (uint32_t i = 0; i < count; i++)
+        append(record, strakes ? 200 : i, strakes ? 2 : 4);
+}
+
+static void damage_records(struct record records[RECORDS]) {
+    struct record *record = &records[below(RECORDS)], *other = &records[below(RECORDS)], first = *record;
+    switch (below(5)) {
+    case 0:
+        *record = *other;
+        *other = first;
+        break;
+    case 1:
+        record->kind = one_in(2) ? below(10) : record->kind ^ 1u << below(16);
+        break;
+    case 2:
+        record->length = one_in(2) ? record->length + below(9) - 4 : below(LONGEST);
+        break;
+    case 3:
+        record->length += below(9) - 4;
+        record->size = record->length < sizeof record->payload ? record->length : record->size;
+        break;
+    default:
+        recount(records);
+    }
+}
+
+static void damage_bytes(struct bytes *sheet) {
+    size_t end = sheet->length, at = below((uint32_t)(one_in(2) && end > 64 ? 64 : end)), to = end;
+    switch (below(6)) {
+    case 0:
+        sheet->at[at] ^= (uint8_t)(1 << below(8));
+        break;
+    case 1:
+        sheet->at[at] = (uint8_t)next();
+        break;
+    case 2:
+        sheet->length = one_in(2) ? at : end - 1;
+        break;
+    case 3:
+        memmove(sheet->at + at, sheet->at + at + 1, end - at - 1);
+        sheet->length--;
+        break;
+    case 4:
+        memmove(sheet->at + at + 1, sheet->at + at, end - at);
+        sheet->length++;
+        break;
+    default:
+        to = one_in(2) || end > MAX_SHEET ? end + 1 + below(8) : MAX_SHEET + below(3);
+        for (sheet->length = to; end < to; end++)
+            sheet->at[end] = one_in(2) ? 0 : (uint8_t)next();
+    }
+}
+
+/* The sheet of such a silo with something changed: numbers, records, bytes, or several of these. */
+static void damage(struct silo s, struct bytes *sheet) {
+    struct record records[RECORDS];
+    uint32_t kinds = one_in(2) ? 1 : 1 + below(7);
+    for (uint32_t moves = kinds & 1 ? 1 + below(2) : 0; moves > 0; moves--)
+        move(&s);
+    put_records(&s, records);
+    if (kinds & 2)
+        damage_records(records);
+    join(records, sheet);
+    if (kinds & 4)
+        damage_bytes(sheet);
+}
+
+/* Random bytes; half of the time small ones, so that some records are found. */
+static void draw_bytes(struct bytes *sheet) {
+    uint32_t limit = one_in(2) ? 256 : 11;
+    sheet->length = below(LONGEST + 1);
+    for (size_t i = 0; i < sheet->length; i++)
+        sheet->at[i] = (uint8_t)below(limit);
+}
+
+static void differ(const struct bytes *sheet, const char *call, uint64_t earlier, uint64_t answer) {
+    const char *list = answer == earlier ? "; the list is not as due" : "";
+    fprintf(stderr, "DIFFERENCE: %s answers %" PRIu64 ", before %" PRIu64 "%s\nsheet: ", call, answer, earlier, list);
+    for (size_t i = 0; i < sheet->length; i++)
+        fprintf(stderr, "%02x", sheet->at[i]);
+    fputc('\n', stderr);
+    exit(1);
+}
+
+/* The load call with a list of that length: both give that answer and the same list, and write to no more of it than they may. */
+static void compare_loads(const struct bytes *sheet, size_t list, uint32_t due) {
+    size_t filled = GUARDS + (due == 0 ? list : 0);
+    uint32_t earlier = before_loads(sheet->at, sheet->length, before + GUARDS, list);
+    uint32_t answer = silo_loads(sheet->at, sheet->length, after + GUARDS, list);
+    bool same = earlier == due && answer == due && memcmp(before, after, sizeof after) == 0;
+    bool guarded = memcmp(after, untouched, GUARDS * sizeof *after) == 0;
+    if (!same || !guarded || memcmp(after + filled, untouched + filled, (LIST - filled) * sizeof *after) != 0)
+        differ(sheet, "silo_loads", earlier, answer);
+    if (due == 0) {
+        memcpy(before, untouched, sizeof before);
+        memcpy(after, untouched, sizeof after);
+    }
+}
+
+/* Both calls; a refused sheet is lent lists round the given length. */
+static void compare(const struct bytes *sheet, size_t list) {
+    uint64_t earlier = before_answers_length(sheet->at, sheet->length), answer = silo_answers_length(sheet->at, sheet->length);
+    bool fits = answer >= SILO_LENGTH_MARK;
+    if (answer != earlier || (!fits && answer >= REFUSALS) || (fits && answer - SILO_LENGTH_MARK > MAX_ANSWERS))
+        differ(sheet, "silo_answers_length", earlier, answer);
+    if (fits)
+        list = (size_t)(answer - SILO_LENGTH_MARK);
+    compare_loads(sheet, list - 1, fits ? WRONG_LENGTH : (uint32_t)answer);
+    compare_loads(sheet, list, fits ? 0 : (uint32_t)answer);
+    compare_loads(sheet, list + 1, fits ? WRONG_LENGTH : (uint32_t)answer);
+    sheets++;
+    accepted += fits;
+    refused[fits ? WRONG_LENGTH : answer] += fits ? 2 : 1;
+}
+
+/* A silo inside the limits or at one, the same damaged, and random bytes. */
+static void compare_round(void) {
+    static struct record records[RECORDS];
+    static struct bytes sheet;
+    struct silo s = draw();
+    size_t list = answers_length(&s);
+    if (one_in(2))
+        move(&s);
+    put_records(&s, records);
+    join(records, &sheet);
+    compare(&sheet, list);
+    for (int i = 0; i < DAMAGED; i++) {
+        damage(s, &sheet);
+        compare(&sheet, list);
+    }
+    draw_bytes(&sheet);
+    compare(&sheet, list);
+}
+
+static void print_counts(void) {
+    for (int number = 1; number < REFUSALS; number++)
+        if (refused[number] == 0 && number != RETIRED) {
+            fprintf(stderr, "refusal %d was never reached\n", number);
+            exit(1);
+        }
+    printf("%" PRIu64 " sheets, %" PRIu64 " of them accepted; refused, by number:", sheets, accepted);
+    for (int number = 1; number < RETIRED; number++)
+        printf(" %d: %" PRIu64 ",", number, refused[number]);
+    printf(" and %" PRIu64 " lists of a wrong length (14); no difference\n", refused[WRONG_LENGTH]);
+}
+
+int main(int argc, char **argv) {
+    uint64_t least = argc > 1 ? strtoull(argv[1], NULL, 10) : 8000000;
+    state = argc > 2 ? strtoull(argv[2], NULL, 10) : 1991;
+    for (int i = 0; i < LIST; i++)
+        before[i] = after[i] = untouched[i] = UINT32_C(0xA5C35A3C);
+    while (sheets < least)
+        compare_round();
+    print_counts();
+    return 0;
+}
