@@ -1,13 +1,9 @@
 -- By the refusal: of the records, of the values, or none.
 use mathlib.Core.Path.{sym, _∙_, ap}
 use denote.Ref.{now}
-use Rattle.description.specs.declared.Described.{Described}
 use Rattle.sheet.proofs.Acceptance.{records-refused, values-refused}
-use Rattle.description.specs.program.Described.{wall-of}
-use Rattle.answers.specs.Place.{strake-place}
-use Rattle.answers.specs.Length.{length-due}
 use Rattle.answers.specs.declared.length.AnswersLength.the-variants.{Due, Refused}
-use Rattle.answers.proofs.LengthLaws.{refused-length, accepted-length}
+use Rattle.answers.proofs.LengthLaws.{described-due, refused-length, accepted-length}
 use borrow.Author.Needs.{needs}
 use Rattle.answers.proofs.length.answers_length.Statement.{statement}
 use Rattle.answers.proofs.length.answers_length.Tie as tie
@@ -40,13 +36,12 @@ cast-t9 : tie.Need-cast-t9
 cast-t9 c = search needs
 
 returns-3 : tie.Need-returns-3
-unfolding length-due wall-of
 returns-3 c =
     let s = now (c .before .before .before .before .before .before .before .before .before .args .sheet) in
     let laid = c .before .before .before .before .before in
-    let judged = c .before .before .before .judge .ensures in
-    let e = values-refused s (sym (laid .before .find-records .ensures .0) ∙ laid .if1 .left) (judged .0) in
-    ap Due (c .length-due .ensures .0 ∙ ap (λ (d : Described). strake-place (d .depths .count) (d .wall .count)) (judged .1))
+    let judged = c .before .before .before .judge in
+    let e = values-refused s (sym (laid .before .find-records .ensures .0) ∙ laid .if1 .left) (judged .ensures .0) in
+    ap Due (described-due s (judged .result .described) (c .length-due .result) (judged .ensures .1) (c .length-due .ensures .0))
     ∙ sym (accepted-length s (sym e ∙ c .before .if2 .left))
 
 pub answers-length-spec : {M : Type 1} → statement M
