@@ -1,7 +1,9 @@
 /* alike [SHEETS [SEED]]: makes the load call and the length call of the library and of an earlier one, whose names begin with before_, on
  * at least so many sheets, 8,000,000 where nothing is said: sheets of random silos inside and around every limit, the same damaged, random
  * bytes. Both have to answer alike and leave alike lists, of the length due and of one less and one more, with all as it was where a call
- * is refused. Prints the counts. Status 1: a difference, with the sheet in hexadecimal; or a refusal that was never reached. */
+ * is refused. Where the earlier library is from before C-13, sheets that go on behind their sixth record are not among these: it answers 5
+ * to them, and the library's length call is compared with the reading of bench/sheet.c. Prints the counts. Status 1: a difference, with the
+ * sheet in hexadecimal; or a refusal that was never reached. */
 #include "before.h"
 #include "sheet.h"
 #include "silo.h"
@@ -17,7 +19,10 @@ enum { DAMAGED = 8, GUARDS = 4, LONGEST = 1100, ROOM = 4096 };
 /* The longest list, one more than any that is due, with its guards. */
 enum { LIST = GUARDS + MAX_ANSWERS + 1 + GUARDS };
 
-enum { RECORDS = 6, REFUSALS = 15, RETIRED = 13, WRONG_LENGTH = 14 };
+/* Refusals of the two calls, in their order. */
+enum { WRONG_LENGTH = 14, GREATEST = 17 };
+static const int REFUSALS[] = {1, 2, 3, 4, 5, 6, 7, 8, 9, 10, 11, 17, 12, WRONG_LENGTH};
+enum { REFUSAL_COUNT = sizeof REFUSALS / sizeof *REFUSALS };
 
 /* A record with the length and kind that its header states, and room for a number too many. */
 struct record {
@@ -26,12 +31,18 @@ struct record {
     uint8_t payload[4 * (MAX_DEPTHS + 1)];
 };
 
+struct records {
+    struct record at[RECORDS];
+    uint32_t count;
+};
+
 struct bytes {
     uint8_t at[ROOM];
     size_t length;
 };
 
-static uint64_t state, sheets, accepted, refused[REFUSALS];
+static bool no_headroom_before;
+static uint64_t state, sheets, accepted, read_here, refused[GREATEST + 1];
 static uint32_t before[LIST], after[LIST], untouched[LIST];
 
 /* Numbers that are the same on every run (splitmix64). */
@@ -67,13 +78,16 @@ static void draw_hopper(struct silo *s) {
     s->hopper = within(flattest(s->run), highest);
 }
 
-/* Strakes that leave h below 10 d_c, where so many can. */
+/* A headroom half of the time, and strakes that leave h below 10 d_c, where so many can. */
 static void draw_wall(struct silo *s) {
+    s->headroom = one_in(2) ? 0 : within(0, one_in(2) ? 64 : 20000);
     s->strake_count = within(1, MAX_STRAKES);
-    uint32_t highest = (10 * width_of(s) - s->hopper - 1) / s->strake_count;
+    uint32_t highest = (10 * width_of(s) + s->headroom - s->hopper - 1) / s->strake_count;
     highest = highest < 200 ? 200 : highest > 3000 ? 3000 : highest;
     for (uint32_t i = 0; i < s->strake_count; i++)
         s->strakes[i] = within(200, highest);
+    if (s->headroom >= foot_of(s))
+        s->headroom = below(foot_of(s));
 }
 
 /* Depths down the wall, each leaving room for those after it; neighbouring millimetres and the foot are among them. */
@@ -106,24 +120,26 @@ static struct silo draw(void) {
     return s;
 }
 
-/* Moves one number to a limit, of the rules or of the discharge factors, or to either side of it. A circle stays one. */
+/* Moves one number to a limit, of the rules, of the discharge factors or of the load depth, or to either side of it. A circle stays one. */
 static void move(struct silo *s) {
-    uint32_t d_c = width_of(s), foot = foot_of(s), i = below(s->depth_count);
+    uint32_t d_c = width_of(s), foot = foot_of(s), over = foot + s->hopper, filled = load_depth(s, foot), i = below(s->depth_count);
     uint32_t *strake = &s->strakes[below(s->strake_count)], *depth = &s->depths[i];
     const struct {
         uint32_t *number, limit;
     } limits[] = {
         {&s->a, 0}, {&s->a, 500}, {&s->a, 50000}, {&s->b, 500}, {&s->b, 50000},
-        {&s->a, foot / 10}, {&s->a, foot - foot / 3}, {&s->a, foot},
+        {&s->a, filled / 10}, {&s->a, filled - filled / 3}, {&s->a, filled},
         {&s->weight, 0}, {&s->weight, 1000}, {&s->weight, 30000},
         {&s->ratio, 20}, {&s->ratio, 100}, {&s->friction, 10}, {&s->friction, 100},
         {&s->factor, 0}, {&s->factor, 100}, {&s->factor, 200},
         {&s->e_i, d_c / 4}, {&s->e_i, 1 << 30}, {&s->e_o, d_c / 4}, {&s->e_o, 1 << 30},
         {&s->run, 0}, {&s->run, d_c / 2}, {&s->run, UINT32_C(1) << 31}, {&s->run, s->hopper * 1000 / 364},
         {&s->hopper, 0}, {&s->hopper, 25000}, {&s->hopper, flattest(s->run)},
-        {&s->hopper, 10 * d_c - foot}, {&s->hopper, d_c + d_c / 2 - foot}, {&s->hopper, d_c - foot},
-        {strake, 0}, {strake, 200}, {strake, 3000}, {strake, *strake + 10 * d_c - foot - s->hopper},
-        {depth, 0}, {depth, i == 0 ? 0 : depth[-1]}, {depth, foot},
+        {&s->hopper, 10 * d_c - filled}, {&s->hopper, d_c + d_c / 2 - filled}, {&s->hopper, d_c - filled},
+        {strake, 0}, {strake, 200}, {strake, 3000}, {strake, *strake + 10 * d_c - filled - s->hopper},
+        {depth, 0}, {depth, i == 0 ? 0 : depth[-1]}, {depth, foot}, {depth, s->headroom},
+        {&s->headroom, 0}, {&s->headroom, *depth}, {&s->headroom, foot}, {&s->headroom, UINT32_C(1) << 31},
+        {&s->headroom, over - 10 * d_c}, {&s->headroom, over - d_c - d_c / 2}, {&s->headroom, over - d_c},
     };
     bool circle = s->a == s->b;
     uint32_t chosen = below(sizeof limits / sizeof *limits);
@@ -138,49 +154,53 @@ static void append(struct record *record, uint32_t number, int width) {
     record->length = (uint32_t)record->size;
 }
 
-/* A circle may also be sent as a rectangle of equal sides. */
-static void put_records(const struct silo *s, struct record records[RECORDS]) {
+/* A circle may also be sent as a rectangle of equal sides, and a headroom of 0 in a record. */
+static void put_records(const struct silo *s, struct records *records) {
+    struct record *at = records->at;
     bool circle = s->a == s->b && !one_in(8);
+    records->count = s->headroom == 0 && !one_in(8) ? RECORDS - 1 : RECORDS;
     for (uint32_t i = 0; i < RECORDS; i++)
-        records[i] = (struct record){.kind = i == 0 && circle ? 1 : i + 2};
+        at[i] = (struct record){.kind = i == 0 && circle ? 1 : i + 2};
     for (int i = circle; i < 2; i++)
-        append(&records[0], i == circle ? s->a : s->b, 4);
-    append(&records[1], s->weight, 4);
-    append(&records[1], s->ratio, 2);
-    append(&records[1], s->friction, 2);
-    append(&records[1], s->factor, 2);
-    append(&records[2], s->e_i, 4);
-    append(&records[2], s->e_o, 4);
-    append(&records[3], s->hopper, 4);
-    append(&records[3], s->run, 4);
+        append(&at[0], i == circle ? s->a : s->b, 4);
+    append(&at[1], s->weight, 4);
+    append(&at[1], s->ratio, 2);
+    append(&at[1], s->friction, 2);
+    append(&at[1], s->factor, 2);
+    append(&at[2], s->e_i, 4);
+    append(&at[2], s->e_o, 4);
+    append(&at[3], s->hopper, 4);
+    append(&at[3], s->run, 4);
     for (uint32_t i = 0; i < s->strake_count; i++)
-        append(&records[4], s->strakes[i], 2);
+        append(&at[4], s->strakes[i], 2);
     for (uint32_t i = 0; i < s->depth_count; i++)
-        append(&records[5], s->depths[i], 4);
+        append(&at[5], s->depths[i], 4);
+    append(&at[6], s->headroom, 4);
 }
 
-static void join(const struct record records[RECORDS], struct bytes *sheet) {
+static void join(const struct records *records, struct bytes *sheet) {
     uint8_t *at = sheet->at;
-    for (int i = 0; i < RECORDS; i++) {
-        at = put(put(at, records[i].length, 2), records[i].kind, 2);
-        memcpy(at, records[i].payload, records[i].size);
-        at += records[i].size;
+    for (uint32_t i = 0; i < records->count; i++) {
+        const struct record *record = &records->at[i];
+        at = put(put(at, record->length, 2), record->kind, 2);
+        memcpy(at, record->payload, record->size);
+        at += record->size;
     }
     sheet->length = (size_t)(at - sheet->at);
 }
 
 /* Another number of strakes, of 200 mm, or of depths, from 0 mm on: none, one too many, the most, or any. */
-static void recount(struct record records[RECORDS]) {
+static void recount(struct records *records) {
     bool strakes = one_in(2);
-    struct record *record = &records[strakes ? 4 : 5];
+    struct record *record = &records->at[strakes ? 4 : 5];
     uint32_t most = strakes ? MAX_STRAKES : MAX_DEPTHS, counts[] = {0, most + 1, most, below(most)}, count = counts[below(4)];
     record->size = record->length = 0;
     for (uint32_t i = 0; i < count; i++)
         append(record, strakes ? 200 : i, strakes ? 2 : 4);
 }
 
-static void damage_records(struct record records[RECORDS]) {
-    struct record *record = &records[below(RECORDS)], *other = &records[below(RECORDS)], first = *record;
+static void damage_records(struct records *records) {
+    struct record *record = &records->at[below(records->count)], *other = &records->at[below(records->count)], first = *record;
     switch (below(5)) {
     case 0:
         *record = *other;
@@ -230,14 +250,14 @@ static void damage_bytes(struct bytes *sheet) {
 
 /* The sheet of such a silo with something changed: numbers, records, bytes, or several of these. */
 static void damage(struct silo s, struct bytes *sheet) {
-    struct record records[RECORDS];
+    struct records records;
     uint32_t kinds = one_in(2) ? 1 : 1 + below(7);
     for (uint32_t moves = kinds & 1 ? 1 + below(2) : 0; moves > 0; moves--)
         move(&s);
-    put_records(&s, records);
+    put_records(&s, &records);
     if (kinds & 2)
-        damage_records(records);
-    join(records, sheet);
+        damage_records(&records);
+    join(&records, sheet);
     if (kinds & 4)
         damage_bytes(sheet);
 }
@@ -250,9 +270,9 @@ static void draw_bytes(struct bytes *sheet) {
         sheet->at[i] = (uint8_t)below(limit);
 }
 
-static void differ(const struct bytes *sheet, const char *call, uint64_t earlier, uint64_t answer) {
-    const char *list = answer == earlier ? "; the list is not as due" : "";
-    fprintf(stderr, "DIFFERENCE: %s answers %" PRIu64 ", before %" PRIu64 "%s\nsheet: ", call, answer, earlier, list);
+static void differ(const struct bytes *sheet, const char *call, uint64_t due, uint64_t answer) {
+    const char *list = answer == due ? "; the list is not as due" : "";
+    fprintf(stderr, "DIFFERENCE: %s answers %" PRIu64 ", %" PRIu64 " due%s\nsheet: ", call, answer, due, list);
     for (size_t i = 0; i < sheet->length; i++)
         fprintf(stderr, "%02x", sheet->at[i]);
     fputc('\n', stderr);
@@ -274,32 +294,44 @@ static void compare_loads(const struct bytes *sheet, size_t list, uint32_t due) 
     }
 }
 
-/* Both calls; a refused sheet is lent lists round the given length. */
-static void compare(const struct bytes *sheet, size_t list) {
-    uint64_t earlier = before_answers_length(sheet->at, sheet->length), answer = silo_answers_length(sheet->at, sheet->length);
+/* The load call with lists of the length due and of one less and one more; a refused sheet is lent lists round the given length. */
+static void compare_lists(const struct bytes *sheet, size_t list, uint64_t answer) {
     bool fits = answer >= SILO_LENGTH_MARK;
-    if (answer != earlier || (!fits && answer >= REFUSALS) || (fits && answer - SILO_LENGTH_MARK > MAX_ANSWERS))
-        differ(sheet, "silo_answers_length", earlier, answer);
     if (fits)
         list = (size_t)(answer - SILO_LENGTH_MARK);
     compare_loads(sheet, list - 1, fits ? WRONG_LENGTH : (uint32_t)answer);
     compare_loads(sheet, list, fits ? 0 : (uint32_t)answer);
     compare_loads(sheet, list + 1, fits ? WRONG_LENGTH : (uint32_t)answer);
+    refused[WRONG_LENGTH] += fits ? 2 : 0;
+}
+
+/* Both calls; the length call alone where the earlier one takes what follows the sixth record for bytes left over. */
+static void compare(const struct bytes *sheet, size_t list) {
+    uint64_t earlier = before_answers_length(sheet->at, sheet->length), answer = silo_answers_length(sheet->at, sheet->length);
+    bool fits = answer >= SILO_LENGTH_MARK, behind = no_headroom_before && earlier == LEFT_OVER;
+    uint64_t due = behind ? read_length(sheet->at, sheet->length) : earlier;
+    if (answer != due || (!fits && answer > GREATEST) || (fits && answer - SILO_LENGTH_MARK > MAX_ANSWERS))
+        differ(sheet, "silo_answers_length", due, answer);
+    if (!behind)
+        compare_lists(sheet, list, answer);
     sheets++;
-    accepted += fits;
-    refused[fits ? WRONG_LENGTH : answer] += fits ? 2 : 1;
+    read_here += behind;
+    if (fits)
+        accepted++;
+    else
+        refused[answer]++;
 }
 
 /* A silo inside the limits or at one, the same damaged, and random bytes. */
 static void compare_round(void) {
-    static struct record records[RECORDS];
+    static struct records records;
     static struct bytes sheet;
     struct silo s = draw();
     size_t list = answers_length(&s);
     if (one_in(2))
         move(&s);
-    put_records(&s, records);
-    join(records, &sheet);
+    put_records(&s, &records);
+    join(&records, &sheet);
     compare(&sheet, list);
     for (int i = 0; i < DAMAGED; i++) {
         damage(s, &sheet);
@@ -310,15 +342,17 @@ static void compare_round(void) {
 }
 
 static void print_counts(void) {
-    for (int number = 1; number < REFUSALS; number++)
-        if (refused[number] == 0 && number != RETIRED) {
-            fprintf(stderr, "refusal %d was never reached\n", number);
+    for (int i = 0; i < REFUSAL_COUNT; i++)
+        if (refused[REFUSALS[i]] == 0) {
+            fprintf(stderr, "refusal %d was never reached\n", REFUSALS[i]);
             exit(1);
         }
     printf("%" PRIu64 " sheets, %" PRIu64 " of them accepted; refused, by number:", sheets, accepted);
-    for (int number = 1; number < RETIRED; number++)
-        printf(" %d: %" PRIu64 ",", number, refused[number]);
+    for (int i = 0; i < REFUSAL_COUNT - 1; i++)
+        printf(" %d: %" PRIu64 ",", REFUSALS[i], refused[REFUSALS[i]]);
     printf(" and %" PRIu64 " lists of a wrong length (14); no difference\n", refused[WRONG_LENGTH]);
+    if (no_headroom_before)
+        printf("%" PRIu64 " of them go on behind the sixth record: 5 before, now as bench/sheet.c reads them\n", read_here);
 }
 
 int main(int argc, char **argv) {
@@ -326,7 +360,8 @@ int main(int argc, char **argv) {
     state = argc > 2 ? strtoull(argv[2], NULL, 10) : 1991;
     for (int i = 0; i < LIST; i++)
         before[i] = after[i] = untouched[i] = UINT32_C(0xA5C35A3C);
-    while (sheets < least)
+    no_headroom_before = knows_no_headroom();
+    while (sheets - read_here < least)
         compare_round();
     print_counts();
     return 0;

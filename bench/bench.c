@@ -65,11 +65,13 @@ static void print_difference(const char *kind, struct silo s) {
 int main(void) {
     print_difference("slender", tower(MAX_DEPTHS, MAX_STRAKES));
     print_difference("squat", squat(MAX_DEPTHS, MAX_STRAKES));
+    print_difference("headroom", under_headroom(MAX_DEPTHS, MAX_STRAKES));
     printf("ratios of times, medians of %d rounds in turns; 24 strakes, a hopper\n", ROUNDS);
     printf("%-30s %8s %8s %9s\n", "", "ours/f64", "MPFR/f64", "MPFR/ours");
     for (size_t i = 0; i < sizeof DEPTHS / sizeof *DEPTHS; i++)
         compare_accepted("accepted", tower, DEPTHS[i]);
     compare_accepted("squat", squat, MAX_DEPTHS);
+    compare_accepted("headroom", under_headroom, MAX_DEPTHS);
     puts("refused, depths: 200");
     compare_refused();
     return 0;

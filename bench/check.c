@@ -12,9 +12,7 @@ uint32_t silo_loads(const uint8_t *sheet, size_t sheet_len, uint32_t *answers, s
 }
 
 uint64_t silo_answers_length(const uint8_t *sheet, size_t sheet_len) {
-    struct silo s;
-    uint32_t refusal = read_sheet(sheet, sheet_len, &s);
-    return refusal != 0 ? refusal : SILO_LENGTH_MARK + answers_length(&s);
+    return read_length(sheet, sheet_len);
 }
 
 /* Never called, nor the next: the comparison is of the two calls that take a sheet. */

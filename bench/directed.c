@@ -58,11 +58,12 @@ static uint64_t wall_load(const struct curve *friction, const struct wall *wall,
     return mpfr_get_ui(t, MPFR_RNDU);
 }
 
-static void directed_row(const struct silo *s, const struct curve curves[3], const struct wall *wall, struct factors factors, uint32_t z,
-                         uint32_t *row, mpfr_t t) {
+static void directed_row(const struct silo *s, const struct curve curves[3], const struct wall *wall, struct factors factors,
+                         uint32_t depth, uint32_t *row, mpfr_t t) {
+    uint32_t z = load_depth(s, depth);
     uint64_t d_c = width_of(s), e = s->e_i > s->e_o ? s->e_i : s->e_o;
     uint64_t p_hf = pressure(&curves[0], z, t), p_wf = pressure(&curves[2], z, t), p_he = up(factors.c_h * p_hf, factors.bottom);
-    row[0] = z;
+    row[0] = depth;
     row[1] = (uint32_t)p_hf;
     row[2] = (uint32_t)p_wf;
     row[3] = (uint32_t)pressure(&curves[1], z, t);
@@ -121,11 +122,11 @@ static void fill(const struct silo *s, const struct curve curves[3], const struc
     mpfr_init2(t, BITS);
     for (uint32_t i = 0; i < s->depth_count; i++, answers += COLUMNS)
         directed_row(s, curves, wall, factors, s->depths[i], answers, t);
-    directed_bottom(s, pressure(&curves[1], foot_of(s), t), answers);
+    directed_bottom(s, pressure(&curves[1], load_depth(s, foot_of(s)), t), answers);
     uint32_t edge = 0;
     for (uint32_t i = 0; i < s->strake_count; i++) {
         edge += s->strakes[i];
-        answers[BOTTOM + i] = (uint32_t)up(factors.c_h * pressure(&curves[0], edge, t), factors.bottom);
+        answers[BOTTOM + i] = (uint32_t)up(factors.c_h * pressure(&curves[0], load_depth(s, edge), t), factors.bottom);
     }
     mpfr_clear(t);
 }

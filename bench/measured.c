@@ -5,7 +5,7 @@
 #include <stdlib.h>
 #include <string.h>
 
-/* Places of numbers in the tower's sheet, and its length. */
+/* Places of numbers in the tower's sheet, and its length, where a headroom's record begins. */
 enum { SIDE = 4, WEIGHT = 12, FACTOR = 20, E_I = 26, E_O = 30, HOPPER = 38, RUN = 42, STRAKES = 50, DEPTHS = 102, END = 902 };
 enum { LAST_STRAKE = STRAKES + 2 * (MAX_STRAKES - 1), LAST_DEPTH = DEPTHS + 4 * (MAX_DEPTHS - 1) };
 
@@ -13,11 +13,14 @@ const struct refused REFUSED[] = {
     {"1: over 1,024 bytes", 1, .longer = MAX_SHEET + 1 - END},
     {"2: empty", 2, .longer = -END},
     {"2: cut short by a byte", 2, .longer = -1},
+    {"2: a byte behind six records", 2, .longer = 1},
     {"3: first kind", 3, .changes = {{2, 2, 3}}},
-    {"3: last kind", 3, .changes = {{DEPTHS - 2, 2, 8}}},
+    {"3: sixth kind", 3, .changes = {{DEPTHS - 2, 2, 8}}},
+    {"3: seventh kind", 3, .changes = {{END + 2, 2, 7}}, .headroom = 300},
     {"4: first length", 4, .changes = {{0, 2, 5}}},
-    {"4: last length", 4, .changes = {{DEPTHS - 4, 2, 801}}},
-    {"5: a byte left over", 5, .longer = 1},
+    {"4: sixth length", 4, .changes = {{DEPTHS - 4, 2, 801}}},
+    {"4: seventh length", 4, .changes = {{END, 2, 5}}, .headroom = 300},
+    {"5: a byte left over", 5, .longer = 1, .headroom = 300},
     {"6: diameter below its range", 6, .changes = {{SIDE, 4, 499}}},
     {"6: second side below its range", 6, .changes = {{SIDE + 4, 4, 499}}, .rectangle = true},
     {"7: weight below its range", 7, .changes = {{WEIGHT, 4, 999}}},
@@ -30,6 +33,7 @@ const struct refused REFUSED[] = {
     {"10: last strake too high", 10, .changes = {{LAST_STRAKE, 2, 3001}}},
     {"11: first depth over V", 11, .changes = {{DEPTHS, 4, 24001}}},
     {"11: last depth over V", 11, .changes = {{LAST_DEPTH, 4, 24001}}},
+    {"17: headroom of V", 17, .headroom = 24000},
     {"12: ten times as high as wide", 12, .changes = {{SIDE, 4, 2700}, {RUN, 4, 1000}}},
     {"14: list one too short", 14, .list_longer = -1},
     {0},
@@ -39,6 +43,7 @@ struct sheet refused_sheet(const struct refused *refused) {
     struct silo s = tower(MAX_DEPTHS, MAX_STRAKES);
     if (refused->rectangle)
         s.b = 2 * s.a;
+    s.headroom = refused->headroom;
     struct sheet sheet = sheet_of(&s);
     for (int i = 0; i < 2; i++)
         put(sheet.bytes + refused->changes[i].at, refused->changes[i].to, refused->changes[i].width);
@@ -49,9 +54,11 @@ struct sheet refused_sheet(const struct refused *refused) {
 }
 
 struct sheet sheet_named(const char *call, const char *name) {
-    unsigned depths, strakes;
-    if (sscanf(name, "depths: %u, strakes: %u", &depths, &strakes) == 2 && depths <= MAX_DEPTHS && strakes <= MAX_STRAKES) {
+    unsigned depths, strakes, headroom = 0;
+    int numbers = sscanf(name, "depths: %u, strakes: %u, headroom: %u", &depths, &strakes, &headroom);
+    if (numbers >= 2 && depths <= MAX_DEPTHS && strakes <= MAX_STRAKES) {
         struct silo s = tower(depths, strakes);
+        s.headroom = headroom;
         struct sheet sheet = sheet_of(&s);
         sheet.answer = strcmp(call, "length") == 0 ? (uint32_t)sheet.list : 0;
         return sheet;

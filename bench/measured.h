@@ -11,8 +11,8 @@ typedef uint32_t sheet_call(const uint8_t *sheet, size_t sheet_len, uint32_t *an
 /* silo_answers_length in that shape: the lower half of its answer, a length or a refusal. It has no list. */
 uint32_t length_call(const uint8_t *sheet, size_t sheet_len, uint32_t *answers, size_t answers_len);
 
-/* A refused sheet: the tower's with 24 strakes and 200 depths, or a rectangle's, after at most two changes of a number of that width at
- * that place; and by how many bytes it, and by how many numbers the list, is longer. */
+/* A refused sheet: the tower's with 24 strakes and 200 depths, or a rectangle's, with a headroom where it is not 0, after at most two
+ * changes of a number of that width at that place; and by how many bytes it, and by how many numbers the list, is longer. */
 struct refused {
     const char *name;
     uint32_t answer;
@@ -21,6 +21,7 @@ struct refused {
         uint32_t to;
     } changes[2];
     int longer, list_longer;
+    uint32_t headroom;
     bool rectangle;
 };
 
@@ -29,7 +30,8 @@ extern const struct refused REFUSED[];
 
 struct sheet refused_sheet(const struct refused *refused);
 
-/* The sheet of that name, "depths: 10, strakes: 24" or a refused one's, with the answer due to the call: "length" or one for loads. */
+/* The sheet of that name, "depths: 10, strakes: 24", the same with ", headroom: 300", or a refused one's, with the answer due to the call:
+ * "length" or one for loads. */
 struct sheet sheet_named(const char *call, const char *name);
 
 #endif

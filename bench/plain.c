@@ -22,7 +22,7 @@ static struct discharge discharge_of(const struct silo *s) {
 
 static void plain_row(const struct silo *s, struct discharge discharge, uint32_t depth, const struct curve curves[3], uint32_t *row) {
     double d_c = width_of(s), e = s->e_i > s->e_o ? s->e_i : s->e_o;
-    double z = depth / 1e3, bracket = 1 - exp(-z / curves[2].z0);
+    double z = load_depth(s, depth) / 1e3, bracket = 1 - exp(-z / curves[2].z0);
     double p_hf = pressure(curves[0], z), p_wf = ceil(curves[2].limit * bracket), p_he = ceil(discharge.c_h * p_hf);
     row[0] = depth;
     row[1] = (uint32_t)p_hf;
@@ -65,11 +65,11 @@ uint32_t plain_loads(const uint8_t *sheet, size_t sheet_len, uint32_t *answers, 
     struct discharge discharge = discharge_of(&s);
     for (uint32_t i = 0; i < s.depth_count; i++, answers += COLUMNS)
         plain_row(&s, discharge, s.depths[i], curves, answers);
-    plain_bottom(&s, radius, pressure(curves[1], foot_of(&s) / 1e3), answers);
-    double edge = 0;
+    plain_bottom(&s, radius, pressure(curves[1], load_depth(&s, foot_of(&s)) / 1e3), answers);
+    uint32_t edge = 0;
     for (uint32_t i = 0; i < s.strake_count; i++) {
-        edge += s.strakes[i] / 1e3;
-        answers[BOTTOM + i] = (uint32_t)ceil(discharge.c_h * pressure(curves[0], edge));
+        edge += s.strakes[i];
+        answers[BOTTOM + i] = (uint32_t)ceil(discharge.c_h * pressure(curves[0], load_depth(&s, edge) / 1e3));
     }
     return 0;
 }

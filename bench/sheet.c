@@ -1,5 +1,6 @@
 /* A sheet read and judged as documents 01 and 02 have it, its discharge factors, and the silos whose sheets are measured. */
 #include "sheet.h"
+#include "silo.h"
 #include <stdbool.h>
 
 static uint32_t number(const uint8_t *bytes, int width) {
@@ -16,6 +17,7 @@ static bool between(uint32_t n, uint32_t low, uint32_t high) {
 static bool length_allowed(uint32_t kind, uint32_t length) {
     switch (kind) {
     case 1:
+    case 8:
         return length == 4;
     case 3:
         return length == 10;
@@ -28,12 +30,15 @@ static bool length_allowed(uint32_t kind, uint32_t length) {
     }
 }
 
-/* Refusals 1 to 5, or 0 with each payload's place. */
-static uint32_t find_records(const uint8_t *sheet, size_t length, const uint8_t *payloads[6]) {
+/* Refusals 1 to 5, or 0 with each payload's place; the sixth record may be the last. */
+static uint32_t find_records(const uint8_t *sheet, size_t length, const uint8_t *payloads[RECORDS]) {
     const uint8_t *at = sheet, *end = sheet + length;
     if (length > MAX_SHEET)
         return 1;
-    for (uint32_t i = 0; i < 6; i++) {
+    payloads[RECORDS - 1] = NULL;
+    for (uint32_t i = 0; i < RECORDS; i++) {
+        if (i == RECORDS - 1 && at == end)
+            return 0;
         if (end - at < 4)
             return 2;
         uint32_t size = number(at, 2), kind = number(at + 2, 2);
@@ -54,7 +59,7 @@ static uint32_t payload_size(const uint8_t *payload) {
     return number(payload - 4, 2);
 }
 
-static void read_numbers(const uint8_t *payloads[6], struct silo *s) {
+static void read_numbers(const uint8_t *payloads[RECORDS], struct silo *s) {
     s->a = number(payloads[0], 4);
     s->b = payload_size(payloads[0]) == 8 ? number(payloads[0] + 4, 4) : s->a;
     s->weight = number(payloads[1], 4);
@@ -71,6 +76,7 @@ static void read_numbers(const uint8_t *payloads[6], struct silo *s) {
         s->strakes[i] = number(payloads[4] + 2 * i, 2);
     for (uint32_t i = 0; i < s->depth_count; i++)
         s->depths[i] = number(payloads[5] + 4 * i, 4);
+    s->headroom = payloads[6] ? number(payloads[6], 4) : 0;
 }
 
 static bool is_hopper(const struct silo *s, uint32_t d_c) {
@@ -83,7 +89,7 @@ static bool product_fits(const struct silo *s) {
            (s->factor == 0 || between(s->factor, 100, 200));
 }
 
-/* Refusals 6 to 12, or 0. */
+/* Refusals 6 to 11, 17 and 12, or 0. */
 static uint32_t judge(const struct silo *s) {
     uint32_t d_c = width_of(s), foot = foot_of(s);
     if (!between(s->a, 500, 50000) || !between(s->b, 500, 50000))
@@ -100,11 +106,13 @@ static uint32_t judge(const struct silo *s) {
     for (uint32_t i = 0; i < s->depth_count; i++)
         if (s->depths[i] > foot || (i > 0 && s->depths[i] <= s->depths[i - 1]))
             return 11;
-    return foot + s->hopper >= 10 * d_c ? 12 : 0;
+    if (s->headroom >= foot)
+        return 17;
+    return load_depth(s, foot) + s->hopper >= 10 * d_c ? 12 : 0;
 }
 
 uint32_t read_sheet(const uint8_t *sheet, size_t length, struct silo *s) {
-    const uint8_t *payloads[6];
+    const uint8_t *payloads[RECORDS];
     uint32_t refusal = find_records(sheet, length, payloads);
     if (refusal != 0)
         return refusal;
@@ -118,6 +126,12 @@ uint32_t read_sheet(const uint8_t *sheet, size_t length, struct silo *s) {
 uint32_t read_call(const uint8_t *sheet, size_t sheet_len, size_t answers_len, struct silo *s) {
     uint32_t refusal = read_sheet(sheet, sheet_len, s);
     return refusal == 0 && answers_len != answers_length(s) ? 14 : refusal;
+}
+
+uint64_t read_length(const uint8_t *sheet, size_t length) {
+    struct silo s;
+    uint32_t refusal = read_sheet(sheet, length, &s);
+    return refusal != 0 ? refusal : SILO_LENGTH_MARK + answers_length(&s);
 }
 
 size_t answers_length(const struct silo *s) {
@@ -136,7 +150,7 @@ uint32_t width_of(const struct silo *s) {
 }
 
 struct factors factors_of(const struct silo *s) {
-    uint64_t d_c = width_of(s), h = (uint64_t)foot_of(s) + s->hopper;
+    uint64_t d_c = width_of(s), h = load_depth(s, foot_of(s)) + s->hopper;
     if (2 * h >= 3 * d_c)
         return (struct factors){s->factor, 110, 100};
     uint64_t above = h > d_c ? h - d_c : 0, one = 100 * d_c;
@@ -144,7 +158,7 @@ struct factors factors_of(const struct silo *s) {
 }
 
 struct silo tower(uint32_t depth_count, uint32_t strake_count) {
-    struct silo s = {6000, 6000, 9000, 55, 30, 130, 200, 400, 3000, 2500, strake_count, depth_count, {0}, {0}};
+    struct silo s = {6000, 6000, 9000, 55, 30, 130, 200, 400, 3000, 2500, 0, strake_count, depth_count, {0}, {0}};
     for (uint32_t i = 0; i < strake_count; i++)
         s.strakes[i] = 1000;
     for (uint32_t i = 0; i < depth_count; i++)
@@ -155,6 +169,12 @@ struct silo tower(uint32_t depth_count, uint32_t strake_count) {
 struct silo squat(uint32_t depth_count, uint32_t strake_count) {
     struct silo s = tower(depth_count, strake_count);
     s.a = s.b = 20000;
+    return s;
+}
+
+struct silo under_headroom(uint32_t depth_count, uint32_t strake_count) {
+    struct silo s = tower(depth_count, strake_count);
+    s.headroom = 300;
     return s;
 }
 
@@ -182,6 +202,7 @@ struct sheet sheet_of(const struct silo *s) {
     at = record(at, 5, (const uint32_t[]){s->hopper, s->run}, 2, 4);
     at = record(at, 6, s->strakes, s->strake_count, 2);
     at = record(at, 7, s->depths, s->depth_count, 4);
+    at = s->headroom == 0 ? at : record(at, 8, &s->headroom, 1, 4);
     sheet.length = (size_t)(at - sheet.bytes);
     return sheet;
 }

@@ -1,26 +1,29 @@
-/* What the measured programs share: a sheet's numbers, its reading with refusals 1 to 12, its discharge factors, and the silos whose sheets
- * are measured. */
+/* What the measured programs share: a sheet's numbers, its reading with refusals 1 to 12 and 17, its load depths and discharge factors, and
+ * the silos whose sheets are measured. */
 #ifndef SHEET_H
 #define SHEET_H
 
 #include <stddef.h>
 #include <stdint.h>
 
-enum { MAX_SHEET = 1024, MAX_STRAKES = 24, MAX_DEPTHS = 200, BOTTOM = 10, COLUMNS = 8 };
+enum { RECORDS = 7, MAX_SHEET = 1024, MAX_STRAKES = 24, MAX_DEPTHS = 200, BOTTOM = 10, COLUMNS = 8 };
 enum { MAX_ANSWERS = COLUMNS * MAX_DEPTHS + BOTTOM + MAX_STRAKES };
 
-/* mm, N/m3 and hundredths; a circle has a = b. */
+/* mm, N/m3 and hundredths; a circle has a = b, a sheet of six records a headroom of 0. */
 struct silo {
-    uint32_t a, b, weight, ratio, friction, factor, e_i, e_o, hopper, run;
+    uint32_t a, b, weight, ratio, friction, factor, e_i, e_o, hopper, run, headroom;
     uint32_t strake_count, depth_count;
     uint32_t strakes[MAX_STRAKES], depths[MAX_DEPTHS];
 };
 
-/* The refusal, 1 to 12, or 0 with the silo's numbers, a factor of 0 read as 135. */
+/* The refusal, 1 to 12 or 17, or 0 with the silo's numbers, a factor of 0 read as 135. */
 uint32_t read_sheet(const uint8_t *sheet, size_t length, struct silo *s);
 
 /* The same with refusal 14 as well, for a list of that length. */
 uint32_t read_call(const uint8_t *sheet, size_t sheet_len, size_t answers_len, struct silo *s);
+
+/* The length call as silo.h declares it. */
+uint64_t read_length(const uint8_t *sheet, size_t length);
 
 size_t answers_length(const struct silo *s);
 
@@ -29,6 +32,11 @@ uint32_t foot_of(const struct silo *s);
 
 /* d, or the shorter side. */
 uint32_t width_of(const struct silo *s);
+
+/* Where the loads at a depth are taken: the larger of 0 and z - g. */
+static inline uint32_t load_depth(const struct silo *s, uint32_t z) {
+    return z > s->headroom ? z - s->headroom : 0;
+}
 
 /* C_h and C_w, exact, over one bottom. */
 struct factors {
@@ -44,6 +52,9 @@ struct silo tower(uint32_t depth_count, uint32_t strake_count);
 /* The same, 20 m wide: with 24 strakes squat and higher than wide. */
 struct silo squat(uint32_t depth_count, uint32_t strake_count);
 
+/* The tower under a headroom of 300 mm. */
+struct silo under_headroom(uint32_t depth_count, uint32_t strake_count);
+
 /* A sheet, which may be a byte too long, the list's length and the answer due. */
 struct sheet {
     uint8_t bytes[MAX_SHEET + 1];
@@ -51,7 +62,7 @@ struct sheet {
     uint32_t answer;
 };
 
-/* The sheet of a silo that is accepted. */
+/* The sheet of a silo, of six records where the headroom is 0. */
 struct sheet sheet_of(const struct silo *s);
 
 /* Writes a number of that many bytes and tells the place after it. */

@@ -1,6 +1,6 @@
 /* Wall loads of a gravity-emptied silo, slender or squat, by ENV 1991-4. Link with libsilo.a.
  *
- * A sheet is six records, one after another. A record is a two-byte payload length, a two-byte kind, then the payload; all
+ * A sheet is six or seven records, one after another. A record is a two-byte payload length, a two-byte kind, then the payload; all
  * numbers are little-endian and unsigned. In this order:
  *
  *   kind 1  circle     u32 diameter d (mm)                          or
@@ -9,10 +9,15 @@
  *   kind 4  filling    u32 e_i, u32 e_o: eccentricities at filling and at the outlet (mm)
  *   kind 5  bottom     u32 hopper height H, u32 run r (mm); both 0 is a flat floor
  *   kind 6  strakes    1 to 24 u16 heights, top first (mm)
- *   kind 7  depths     1 to 200 u32 depths below the brim, strictly rising (mm)
+ *   kind 7  depths     1 to 200 u32 depths z below the brim, strictly rising (mm)
+ *   kind 8  headroom   u32 headroom g, from the brim down to the level surface of the grain (mm); a sheet may end before this record,
+ *                      and then g = 0
  *
- * d_c is d or the shorter side, V the sum of the strakes, h = V + H. On discharge p_he = C_h p_hf and p_we = C_w p_wf, each rounded
- * up once; with C0 as a ratio:
+ * A load is taken as far below the surface as its place lies: at z - g for a depth z, at V - g for floor and hopper, at its lower edge
+ * less g for a strake, V being the sum of the strakes; at 0 for a place above the surface, where every load is 0.
+ *
+ * d_c is d or the shorter side, h = V - g + H. On discharge p_he = C_h p_hf and p_we = C_w p_wf, each rounded up once; with C0 as a
+ * ratio:
  *
  *   slender, 2h >= 3 d_c            C_h = C0                           C_w = 1.1
  *   squat, 2h < 3 d_c, and h > d_c  C_h = 1 + 2 (C0 - 1) (h/d_c - 1)   C_w = 1 + 0.2 (h/d_c - 1)
@@ -20,7 +25,7 @@
  *
  * An answer list is of u32 numbers:
  *
- *   for each depth, eight:  z (mm), p_hf, p_wf, p_vf (Pa), P_w (N/m of perimeter), p_he, p_we, p_p (Pa)
+ *   for each depth, eight:  z (mm) as in the sheet, p_hf, p_wf, p_vf (Pa), P_w (N/m of perimeter), p_he, p_we, p_p (Pa)
  *   then ten for the bottom: the load on a flat floor (Pa) and nine zeros; or a hopper's P_n at k = 0..4 and then its P_t at
  *                           k = 0..4 (Pa), k quarters of the slope counted up from the outlet
  *   then one per strake:    p_he at its lower edge (Pa)
@@ -31,7 +36,7 @@
  *    2  a header or a payload cut short; an empty sheet too
  *    3  a record's kind is not the one due
  *    4  a payload's length is not one that its kind allows
- *    5  bytes left over after the sixth record
+ *    5  bytes left over after the seventh record; what follows the sixth is judged as the seventh, by 2, 3 and 4
  *    6  d, a or b outside 500..50,000 mm
  *    7  weight outside 1,000..30,000 N/m3, Ks outside 20..100, mu outside 10..100, or C0 neither 0 nor 100..200
  *    8  an eccentricity e with 4e > d_c
@@ -39,6 +44,7 @@
  *       of over 20 degrees)
  *   10  a strake outside 200..3,000 mm
  *   11  a depth over V, or not greater than the one before it
+ *   17  g >= V
  *   12  h >= 10 d_c
  *   13  retired: no call answers it, and the number is not used again
  *   14  the answer list is not exactly of the length due (silo_loads only)
@@ -64,11 +70,11 @@ extern "C" {
 #define SILO_PRODUCT_RECORD 14
 
 /* Fills the answer list of answers_len numbers for the sheet of sheet_len bytes.
- * Returns 0; or a refusal, 1 to 12 or 14, and the list is as it was. */
+ * Returns 0; or a refusal, 1 to 12, 14 or 17, and the list is as it was. */
 uint32_t silo_loads(const uint8_t *sheet, size_t sheet_len, uint32_t *answers, size_t answers_len);
 
 /* The answer list's length in numbers, 8 times the depths plus 10 plus the strakes.
- * Returns SILO_LENGTH_MARK plus that length; or a refusal, 1 to 12. */
+ * Returns SILO_LENGTH_MARK plus that length; or a refusal, 1 to 12 or 17. */
 uint64_t silo_answers_length(const uint8_t *sheet, size_t sheet_len);
 
 /* Writes the product record of a row of table 7.1 of ENV 1991-4, rows counted from 0 in its order: barley, cement, clinker, dry

@@ -37,6 +37,8 @@ fn main() {
         let made = Command::new("rt").args(["staticlib", "silo"]).current_dir(root).status();
         assert!(made.is_ok_and(|status| status.success()), "rt staticlib silo makes no library");
     }
+    // A library that was put there is linked too.
+    println!("cargo:rerun-if-changed={root}/target/staticlib/libsilo.a");
     println!("cargo:rustc-link-search=native={root}/target/staticlib");
     // Linked to programs alone: the fuzzer and the benchmark link fuzz/ with other code in the library's place.
     println!("cargo:rustc-link-lib=static:-bundle=silo");

@@ -160,13 +160,14 @@ pub fn draw(file: &str, bytes: &[u8], units: Units) -> Outcome {
     drawn.map(done).unwrap_or_else(|failure| failed(file, &failure))
 }
 
-/// The same silo with depths for curves: the strakes' edges and even steps, at most 200.
+/// The same silo with depths for curves: the strakes' edges, the grain's surface and even steps, at most 200.
 fn with_more_depths(silo: &Description) -> Description {
     const STEPS: u64 = 160;
     let wall = silo.wall_height();
     let steps = (0..=STEPS).map(|i| wall * i / STEPS);
-    let mut depths: Vec<u32> =
-        steps.chain(silo.edges().map(|(_, edge)| edge)).map(|z| z as u32).collect();
+    let edges = silo.edges().map(|(_, edge)| edge);
+    let depths = steps.chain(edges).chain([silo.headroom.into()]);
+    let mut depths: Vec<u32> = depths.map(|z| z as u32).collect();
     depths.sort_unstable();
     depths.dedup();
     Description { depths, ..silo.clone() }

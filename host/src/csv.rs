@@ -140,6 +140,9 @@ fn description(report: &Report, dialect: Dialect) -> String {
     add("hopper run", silo.hopper_run.to_string(), "mm");
     add("wall height", silo.wall_height().to_string(), "mm");
     add("strakes", dialect.text(&text::runs(&silo.strakes)), "mm");
+    if silo.headroom > 0 {
+        add("headroom", silo.headroom.to_string(), "mm");
+    }
     let discharge = report.discharge();
     add("kind", discharge.shape.word().to_string(), "");
     for (name, fraction) in discharge.fractions() {

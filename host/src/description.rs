@@ -31,8 +31,10 @@ pub struct Description {
     pub hopper_run: u32,
     /// Heights, top first, mm
     pub strakes: Vec<u16>,
-    /// mm
+    /// Below the brim, mm
     pub depths: Vec<u32>,
+    /// g, from the brim down to the grain's level surface, mm
+    pub headroom: u32,
 }
 
 /// Bytes of a record's header: payload length and kind.
@@ -115,8 +117,18 @@ impl Description {
         })
     }
 
-    /// h = V + H, mm
+    /// V - g, of the grain at the wall, mm; 0 where the headroom leaves none.
+    pub fn grain_height(&self) -> u64 {
+        self.wall_height().saturating_sub(self.headroom.into())
+    }
+
+    /// h = V - g + H, from the grain's surface to the outlet, mm
     pub fn height(&self) -> u64 {
+        self.grain_height() + u64::from(self.hopper_height)
+    }
+
+    /// V + H, from the brim to the outlet, mm
+    pub fn built_height(&self) -> u64 {
         self.wall_height() + u64::from(self.hopper_height)
     }
 
@@ -125,7 +137,7 @@ impl Description {
         library::answers_length(&self.to_bytes()).is_ok()
     }
 
-    /// The sheet of six records. At most `MOST_STRAKES` and `MOST_DEPTHS` can be written.
+    /// The sheet of six records, and of a seventh where there is headroom. At most `MOST_STRAKES` and `MOST_DEPTHS` can be written.
     pub fn to_bytes(&self) -> Vec<u8> {
         let product = &self.product;
         let mut product_payload = words(&[product.weight]);
@@ -134,6 +146,7 @@ impl Description {
             Section::Circle(d) => record(1, words(&[d])),
             Section::Rectangle(a, b) => record(2, words(&[a, b])),
         };
+        let headroom = (self.headroom > 0).then(|| record(8, words(&[self.headroom])));
         let records = [
             section,
             record(3, product_payload),
@@ -141,11 +154,12 @@ impl Description {
             record(5, words(&[self.hopper_height, self.hopper_run])),
             record(6, halves(&self.strakes)),
             record(7, words(&self.depths)),
+            headroom.unwrap_or_default(),
         ];
         records.concat()
     }
 
-    /// The description in six records; a refusal of form (1 to 5) is the library's.
+    /// The description in six records or seven; a refusal of form (1 to 5) is the library's.
     pub fn from_bytes(sheet: &[u8]) -> Result<Description, Refusal> {
         if let Err(refusal) = library::answers_length(sheet) {
             if refusal.is_of_form() {
@@ -155,6 +169,7 @@ impl Description {
         let mut rest = sheet;
         let [section, product, filling, bottom, strakes, depths] =
             std::array::from_fn(|_| next_payload(&mut rest));
+        let headroom = if rest.is_empty() { 0 } else { u32_at(next_payload(&mut rest), 0) };
         Ok(Description {
             section: match section.len() {
                 4 => Section::Circle(u32_at(section, 0)),
@@ -167,6 +182,7 @@ impl Description {
             hopper_run: u32_at(bottom, 4),
             strakes: (0..strakes.len() / 2).map(|i| u16_at(strakes, 2 * i)).collect(),
             depths: (0..depths.len() / 4).map(|i| u32_at(depths, 4 * i)).collect(),
+            headroom,
         })
     }
 }

@@ -34,6 +34,7 @@ pub fn page(report: &Report, curves: &Loads) -> String {
     let layout = Layout::of(report.silo, brim, lowest);
     silo::draw(&mut svg, report.silo, &layout);
     values::draw(&mut svg, report, &layout, curves);
+    silo::headroom(&mut svg, report.silo, &layout);
     chart::draw(&mut svg, report, &layout, curves);
     svg.page(&name)
 }
@@ -77,8 +78,9 @@ fn sizes(silo: &Description) -> Vec<String> {
             degrees(silo),
         ]),
     }
+    let height = if silo.headroom > 0 { "V - g + H" } else { "V + H" };
     parts.extend([
-        format!("height h = V + H = {}", length(silo.height())),
+        format!("height h = {height} = {}", length(silo.height())),
         format!("e_i {}", length(silo.filling_eccentricity)),
         format!("e_o {}", length(silo.outlet_eccentricity)),
     ]);

@@ -4,20 +4,21 @@ use crate::description::{u16_at, Description, Section, HEADER};
 use crate::name::Name;
 use crate::place::Field;
 
-/// The records due, with the kinds that each may have.
-const RECORDS: [(&str, &[u16]); 6] = [
+/// The records due, with the kinds that each may have. A sheet may end before the last.
+const RECORDS: [(&str, &[u16]); 7] = [
     ("circle or rectangle", &[1, 2]),
     ("product", &[3]),
     ("filling", &[4]),
     ("bottom", &[5]),
     ("strakes", &[6]),
     ("depths", &[7]),
+    ("headroom", &[8]),
 ];
 
 /// Payload lengths that a kind allows, in words.
 fn lengths(kind: u16) -> (fn(usize) -> bool, &'static str) {
     match kind {
-        1 => (|n| n == 4, "4"),
+        1 | 8 => (|n| n == 4, "4"),
         2 | 4 | 5 => (|n| n == 8, "8"),
         3 => (|n| n == 10, "10"),
         6 => (|n| n % 2 == 0 && (2..=48).contains(&n), "2 for each of 1 to 24 strakes"),
@@ -38,6 +39,9 @@ pub fn fault(sheet: &[u8]) -> Option<String> {
         let record = format!("record {} ({name}) at byte {at}", i + 1);
         match record_fault(&sheet[at..], kinds) {
             Ok(length) => at += length,
+            Err(why) if i + 1 == RECORDS.len() => {
+                return Some(format!("{record}: {why}; without headroom a sheet ends before it"))
+            }
             Err(why) => return Some(format!("{record}: {why}")),
         }
     }
@@ -72,7 +76,7 @@ pub fn position(silo: &Description, field: Field) -> String {
         Section::Circle(_) => 4,
         Section::Rectangle(..) => 8,
     };
-    let payloads = [section, 10, 8, 8, 2 * silo.strakes.len()];
+    let payloads = [section, 10, 8, 8, 2 * silo.strakes.len(), 4 * silo.depths.len()];
     let start =
         |record: usize| HEADER + payloads[..record].iter().map(|n| n + HEADER).sum::<usize>();
     let (record, offset) = match (field, field.name()) {
@@ -89,6 +93,7 @@ pub fn position(silo: &Description, field: Field) -> String {
         (_, Name::HopperRun) => (3, 4),
         (_, Name::Strakes) => (4, 0),
         (_, Name::Depths) => (5, 0),
+        (_, Name::Headroom) => (6, 0),
         // the section; a sheet has no other names
         _ => (0, 0),
     };

@@ -96,7 +96,7 @@ fn description(report: &Report) -> String {
     let [slenderness, horizontal, friction] = discharge.fractions().map(|(_, fraction)| {
         object(&[("top", fraction.top.to_string()), ("bottom", fraction.bottom.to_string())])
     });
-    object(&[
+    let mut fields = vec![
         section,
         ("product", string(&report.origin.shown(product))),
         ("weight_n_per_m3", product.weight.to_string()),
@@ -109,9 +109,15 @@ fn description(report: &Report) -> String {
         ("hopper_height_mm", silo.hopper_height.to_string()),
         ("hopper_run_mm", silo.hopper_run.to_string()),
         ("strakes_mm", numbers(&silo.strakes)),
+    ];
+    if silo.headroom > 0 {
+        fields.push(("headroom_mm", silo.headroom.to_string()));
+    }
+    fields.extend([
         ("kind", string(discharge.shape.word())),
         ("h_per_d_c", slenderness),
         ("C_h", horizontal),
         ("C_w", friction),
-    ])
+    ]);
+    object(&fields)
 }

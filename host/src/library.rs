@@ -5,7 +5,7 @@
 pub struct Refusal(pub u32);
 
 /// What refusals 1, 2, .. mean.
-const MEANINGS: [&str; 16] = [
+const MEANINGS: [&str; 17] = [
     "the sheet is over 1024 bytes",
     "a record is cut short",
     "a record's kind is not the one due",
@@ -19,11 +19,12 @@ const MEANINGS: [&str; 16] = [
      or shorter side, and a height of at most 25000 mm",
     "a strake is outside 200 to 3000 mm",
     "a depth is below the wall's foot or not greater than the one before",
-    "too slender: wall and hopper are 10 or more times as high as the diameter or shorter side",
+    "too slender: wall and hopper, less the headroom, are 10 or more times as high as the diameter or shorter side",
     "retired, and never answered: squat silos are calculated",
     "the answer list is not of the length due",
     "the catalogue has no such row or wall",
     "the catalogue buffer is not of 14 bytes",
+    "the headroom is the wall's height or more",
 ];
 
 impl Refusal {
@@ -42,13 +43,14 @@ impl Refusal {
     pub const ANSWERS_LENGTH: Refusal = Refusal(14);
     pub const NO_SUCH_ROW: Refusal = Refusal(15);
     pub const RECORD_LENGTH: Refusal = Refusal(16);
+    pub const HEADROOM: Refusal = Refusal(17);
 
     pub fn meaning(self) -> &'static str {
         let place = (self.0 as usize).wrapping_sub(1);
         MEANINGS.get(place).copied().unwrap_or("a refusal that this program does not know")
     }
 
-    /// The sheet is not six records, so it has no description.
+    /// The sheet is not six records or seven, so it has no description.
     pub fn is_of_form(self) -> bool {
         self.0 <= Refusal::BYTES_LEFT_OVER.0
     }

@@ -49,6 +49,7 @@ A silo's text, one name = value unit a line, in any order; # starts a comment:
                                     hopper run = 1700 mm
   strakes = 8 x 2000 mm         or  3 x 1200, 2 x 1500 mm; top first
   depths = every 500 mm         or  0, 500, 1000 mm  or  strake edges
+  headroom = 300 mm             or no such line: grain level with the brim
 Lengths are in mm, cm or m, weights in N/m3 or kN/m3; a decimal has a point.
 Beside product, a line weight, ratio, friction or factor replaces that number;
 wall = corrugated needs friction, which table 7.1 does not have. A hopper is also

@@ -19,6 +19,7 @@ pub enum Name {
     OutletWidth,
     Strakes,
     Depths,
+    Headroom,
     Project,
     Customer,
     Place,
@@ -52,7 +53,7 @@ const SIDE: &str = "500 to 50000 mm";
 const ECCENTRICITY: &str = "at most a quarter of the diameter or shorter side";
 
 /// In the order of `Name`: the sheet's numbers, then what a text says of the order.
-const NAMES: [Row; 24] = [
+const NAMES: [Row; 25] = [
     row(Name::Diameter, "diameter", &["d", "D", "inside diameter"], "diameter = 5000 mm", SIDE),
     row(Name::Sides, "sides", &["a x b"], "sides = 4000 x 6000 mm", "500 to 50000 mm each"),
     row(Name::Product, "product", &["grain"], "product = wheat", ""),
@@ -124,6 +125,13 @@ const NAMES: [Row; 24] = [
         "1 to 24 strakes of 200 to 3000 mm",
     ),
     row(Name::Depths, "depths", &["z"], "depths = every 500 mm", "1 to 200 depths, rising"),
+    row(
+        Name::Headroom,
+        "headroom",
+        &["g", "head room", "freeboard", "ullage"],
+        "headroom = 300 mm",
+        "under the wall's height, the sum of the strakes, or blank",
+    ),
     row(Name::Project, "project", &[], "", ""),
     row(Name::Customer, "customer", &[], "", ""),
     row(Name::Place, "place", &[], "", ""),
@@ -155,8 +163,8 @@ const ELSEWHERE: [(&[&str], &str); 4] = [
     (&["width", "length"], "write diameter = 5000 mm or sides = 4000 x 6000 mm"),
     (&["bottom"], "write floor = flat, or a hopper by hopper height and hopper run"),
     (
-        &["headroom", "fill level", "heap", "surcharge", "angle of repose"],
-        "the grain is taken as level with the brim; leave the line out",
+        &["fill level", "filling level", "heap", "surcharge", "angle of repose"],
+        "the grain is taken as level with the brim, or below it by headroom = 300 mm; leave the line out",
     ),
 ];
 
@@ -195,12 +203,12 @@ pub fn meant(text: &str) -> (String, Option<Name>) {
     let plain = plain.as_str();
     let elsewhere = ELSEWHERE.iter().find(|(names, _)| names.contains(&plain));
     let words = NAMES.iter().map(|row| row.word);
-    let needed = words.clone().take(COUNT - LABELS.len());
+    let of_the_silo = words.clone().take(COUNT - LABELS.len());
     let labels = LABELS.iter().map(|(name, _)| name.word());
     let close = close(plain, words);
     let mend = match (elsewhere, &close[..]) {
         (Some((_, mend)), _) => mend.to_string(),
-        (None, []) => format!("{}, or, for all outputs, {}", choice(needed), listed(labels)),
+        (None, []) => format!("{}, or, for all outputs, {}", choice(of_the_silo), listed(labels)),
         (None, close) => did_you_mean(close),
     };
     let name = match (elsewhere, &close[..]) {

@@ -145,6 +145,7 @@ pub const SIDE: Measure = Measure { limits: (500, 50_000), ..LENGTH };
 pub const HOPPER_HEIGHT: Measure = Measure { limits: (1, 25_000), ..LENGTH };
 pub const HOPPER_RUN: Measure = Measure { limits: (1, 24_999), ..LENGTH };
 pub const OUTLET: Measure = Measure { limits: (1, 49_998), ..LENGTH };
+pub const HEADROOM: Measure = Measure { limits: (0, 71_999), ..LENGTH };
 /// From depth to depth.
 pub const STEP: Measure = Measure { limits: (1, 72_000), ..LENGTH };
 pub const STRAKE: Measure =

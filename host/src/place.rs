@@ -6,6 +6,7 @@ use crate::name::Name;
 use crate::number::{
     hundredths, millimetres, newtons, Measure, FACTOR, FRICTION, RATIO, SIDE, STRAKE, WEIGHT,
 };
+use std::ops::RangeInclusive;
 
 /// A number of a sheet, or a whole list.
 #[derive(Clone, Copy, Debug, PartialEq, Eq)]
@@ -28,13 +29,14 @@ pub struct Place {
 const MOST: usize = 5;
 
 /// The rules on a silo's numbers, in the order in which they are tried.
-const RULES: [Refusal; 7] = [
+const RULES: [Refusal; 8] = [
     Refusal::SECTION,
     Refusal::PRODUCT,
     Refusal::ECCENTRICITY,
     Refusal::BOTTOM,
     Refusal::STRAKE,
     Refusal::DEPTH,
+    Refusal::HEADROOM,
     Refusal::TOO_SLENDER,
 ];
 
@@ -45,6 +47,8 @@ struct Sizes {
     width: Option<u64>,
     /// V, mm
     wall: Option<u64>,
+    /// g, mm
+    headroom: Option<u64>,
     /// H, mm
     hopper: Option<u64>,
 }
@@ -54,6 +58,7 @@ impl Sizes {
         Sizes {
             width: Some(silo.section.shorter_side().into()),
             wall: Some(silo.wall_height()),
+            headroom: Some(silo.headroom.into()),
             hopper: Some(silo.hopper_height.into()),
         }
     }
@@ -63,10 +68,12 @@ impl Sizes {
         let all = Sizes::of(silo);
         let width = all.width.filter(|_| sides(silo.section).is_empty());
         let counted = counts(silo).iter().all(|place| place.field != Field::Line(Name::Strakes));
+        let wall = all.wall.filter(|_| counted && strakes(silo).is_empty());
+        let sizes = Sizes { width, wall, ..all };
         Sizes {
-            width,
-            wall: all.wall.filter(|_| counted && strakes(silo).is_empty()),
-            hopper: all.hopper.filter(|_| bottom(silo, &Sizes { width, ..all }).is_empty()),
+            headroom: all.headroom.filter(|_| headroom(silo, &sizes).is_none()),
+            hopper: all.hopper.filter(|_| bottom(silo, &sizes).is_empty()),
+            ..sizes
         }
     }
 }
@@ -87,8 +94,13 @@ pub fn others(first: Refusal, silo: &Description) -> Vec<(Refusal, Place)> {
 
 /// What is left for later, where a size that other numbers are measured by is at fault.
 pub fn later(silo: &Description) -> Option<String> {
-    let Sizes { width, wall, hopper } = Sizes::sound(silo);
-    let sizes = [(width, "the diameter or sides"), (wall, "the strakes"), (hopper, "the hopper")];
+    let Sizes { width, wall, headroom, hopper } = Sizes::sound(silo);
+    let sizes = [
+        (width, "the diameter or sides"),
+        (wall, "the strakes"),
+        (headroom, "the headroom"),
+        (hopper, "the hopper"),
+    ];
     let at_fault = sizes.iter().filter(|(size, _)| size.is_none()).map(|(_, name)| *name);
     let at_fault = at_fault.collect::<Vec<&str>>().join(" and ");
     (!at_fault.is_empty())
@@ -104,6 +116,7 @@ fn judged(refusal: Refusal, silo: &Description, sizes: &Sizes) -> Vec<Place> {
         Refusal::BOTTOM => bottom(silo, sizes),
         Refusal::STRAKE => strakes(silo),
         Refusal::DEPTH => depths(silo, sizes),
+        Refusal::HEADROOM => headroom(silo, sizes).into_iter().collect(),
         Refusal::TOO_SLENDER => shape(sizes).into_iter().collect(),
         _ => Vec::new(),
     };
@@ -118,12 +131,13 @@ fn judged(refusal: Refusal, silo: &Description, sizes: &Sizes) -> Vec<Place> {
 const MOST_STRAKES: u64 = 24;
 /// mm
 const HIGHEST_STRAKE: u64 = STRAKE.limits.1;
+const HIGHEST_WALL: u64 = MOST_STRAKES * HIGHEST_STRAKE;
 
 fn counts(silo: &Description) -> Vec<Place> {
     let mut found = Vec::new();
     let (strakes, depths) = (silo.strakes.len(), silo.depths.len());
     if !(1..=MOST_STRAKES as usize).contains(&strakes) {
-        let mend = match silo.wall_height() > MOST_STRAKES * HIGHEST_STRAKE {
+        let mend = match silo.wall_height() > HIGHEST_WALL {
             true => "so it is at most 72000 mm high",
             false => "take higher strakes",
         };
@@ -314,17 +328,62 @@ fn depths(silo: &Description, sizes: &Sizes) -> Vec<Place> {
     found
 }
 
+/// A headroom that leaves no grain at the wall: g >= V.
+fn headroom(silo: &Description, sizes: &Sizes) -> Option<Place> {
+    let (headroom, wall) = (u64::from(silo.headroom), sizes.wall?);
+    if headroom < wall {
+        return None;
+    }
+    let limit = format!("it must be under the sum of the strakes, {wall} mm");
+    let mend = headrooms(sizes).map(|good| less_headroom(headroom, good)).unwrap_or_default();
+    let why = format!("no grain is left at the wall; {limit}{mend}");
+    Some(Place { field: Field::Line(Name::Headroom), why })
+}
+
+/// In place of a headroom that is too great: those that are not, and metres taken for millimetres, or a higher wall where one can be.
+fn less_headroom(headroom: u64, good: RangeInclusive<u64>) -> String {
+    let range = match (good.start(), good.end()) {
+        (0, most) => format!("at most {most} mm"),
+        (least, most) => format!("{least} mm to {most} mm"),
+    };
+    let meant = headroom / 1000;
+    let more = match headroom < HIGHEST_WALL {
+        true => format!(", or strakes of more than {headroom} mm together"),
+        false if headroom.is_multiple_of(1000) && good.contains(&meant) => {
+            format!("; did you mean {meant} mm?")
+        }
+        false => String::new(),
+    };
+    format!(": {range}{more}")
+}
+
+/// The headrooms that break neither 17 nor 12, as far as the sizes are known; mm.
+fn headrooms(sizes: &Sizes) -> Option<RangeInclusive<u64>> {
+    let wall = sizes.wall?;
+    let least = match (sizes.hopper, sizes.width) {
+        (Some(hopper), Some(width)) => (wall + hopper + 1).saturating_sub(10 * width),
+        _ => 0,
+    };
+    (least < wall).then(|| least..=wall - 1)
+}
+
 /// A silo with h >= 10 d_c.
 fn shape(sizes: &Sizes) -> Option<Place> {
-    let (width, wall, hopper) = (sizes.width?, sizes.wall?, sizes.hopper?);
-    let (height, limit) = (wall + hopper, 10 * width);
+    let (width, wall, headroom, hopper) =
+        (sizes.width?, sizes.wall?, sizes.headroom?, sizes.hopper?);
+    let (height, limit) = (wall.saturating_sub(headroom) + hopper, 10 * width);
     if height < limit {
         return None;
     }
-    let made = format!("wall {wall} mm and hopper {hopper} mm make h = {height} mm");
+    let (less, more) = match headroom {
+        0 => (String::new(), None),
+        _ => (format!(" less headroom {headroom} mm"), headrooms(sizes)),
+    };
+    let made = format!("wall {wall} mm{less} and hopper {hopper} mm make h = {height} mm");
     let limit = format!("it must be under 10 times {width} mm, {limit} mm");
     let lower = if hopper > 0 { "take off strakes or hopper" } else { "take off strakes" };
-    let why = format!("{made}; {limit}; {lower} or take a wider silo");
+    let more = more.map(|good| format!(", leave a headroom of at least {} mm", good.start()));
+    let why = format!("{made}; {limit}; {lower}{} or take a wider silo", more.unwrap_or_default());
     Some(Place { field: Field::Line(Name::Strakes), why })
 }
 
@@ -366,6 +425,7 @@ fn shown_line(name: Name, silo: &Description) -> String {
         Name::OutletEccentricity => length(silo.outlet_eccentricity),
         Name::HopperHeight => length(silo.hopper_height),
         Name::HopperRun => length(silo.hopper_run),
+        Name::Headroom => length(silo.headroom),
         _ => return name.word().to_string(),
     };
     format!("{} = {value}", name.word())

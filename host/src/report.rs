@@ -74,11 +74,12 @@ impl Report<'_> {
         let flat_and_squat = silo.is_flat() && discharge.shape != Shape::Slender;
         let notes = [
             Some(EDITION.to_string()),
+            (silo.headroom > 0).then(|| headroom(silo)),
             self.origin.has_friction_on_steel(&silo.product).then(|| friction(silo)),
             Some(wall_load(&discharge)),
             Some(patch(silo)),
             unreduced(discharge.shape).map(str::to_string),
-            flat_and_squat.then(|| HEAP.to_string()),
+            flat_and_squat.then(|| heap(silo)),
             (!silo.is_flat()).then(|| TRANSITION.to_string()),
             silo.outlet_is_passed().then(|| eccentricity(silo)),
         ];
@@ -88,11 +89,29 @@ impl Report<'_> {
 
 const EDITION: &str =
     "ENV 1991-4:1995, which EN 1991-4:2006 has replaced; characteristic values without partial factors.";
-const HEAP: &str =
-    "Flat floor: its load (5.13) is for grain level with the brim. Under a heap 5.37 gives a greater one for squat silos, which is not \
-     calculated: this errs on the light side.";
 const TRANSITION: &str =
     "Hopper: without the extra pressure at the transition of a mass-flow hopper (5.26), which these rules do not cover.";
+
+/// From where depths and loads are counted.
+fn headroom(silo: &Description) -> String {
+    format!(
+        "Headroom g = {} mm: z is counted from the brim, loads and h from the grain's equivalent surface (1.4.1), g below it; above the \
+         surface loads are 0. Filled higher, they are greater.",
+        silo.headroom
+    )
+}
+
+/// What 5.37 would add.
+fn heap(silo: &Description) -> String {
+    let level = match silo.headroom {
+        0 => "grain level with the brim",
+        _ => "grain that lies level",
+    };
+    format!(
+        "Flat floor: its load (5.13) is for {level}. Under a heap 5.37 gives a greater one for squat silos, which is not calculated: \
+         this errs on the light side."
+    )
+}
 
 fn wall_load(discharge: &Discharge) -> String {
     let discharge = match discharge.shape {
@@ -147,8 +166,11 @@ fn patch(silo: &Description) -> String {
             format!("two opposite squares of s = {side} mm at any place of the wall (5.10)")
         }
     };
-    let is_lower = 10 * silo.wall_height() < side_in_tenths;
-    let lower = if is_lower { " The wall is lower than s." } else { "" };
+    let lower = match 10 * silo.grain_height() < side_in_tenths {
+        true if silo.headroom == 0 => " The wall is lower than s.",
+        true => " The grain at the wall is lower than s.",
+        false => "",
+    };
     format!("p_he and the strakes' numbers are without the patch load p_p, which is to be added: it acts on {place}.{lower}")
 }
 

@@ -16,7 +16,12 @@ const WIDTH: usize = 76;
 
 pub fn page(report: &Report) -> String {
     let line = |fields: Vec<String>| line(report, fields);
-    let mut page = heading(report) + "\nLoads on the wall at depth z below the brim\n";
+    let begins = match report.silo.headroom {
+        0 => String::new(),
+        headroom => format!("; the grain begins at {headroom} mm"),
+    };
+    let mut page =
+        format!("{}\nLoads on the wall at depth z below the brim{begins}\n", heading(report));
     let columns = report.columns();
     page += &line(columns.map(|(name, _)| name.to_string()).to_vec());
     page += &line(columns.map(|(_, unit)| unit.to_string()).to_vec());
@@ -47,10 +52,14 @@ fn heading(report: &Report) -> String {
             silo.outlet_width()
         ),
     };
+    let headroom = match silo.headroom {
+        0 => String::new(),
+        headroom => format!(", headroom g {headroom} mm"),
+    };
     let [filling, outlet] = [silo.filling_eccentricity, silo.outlet_eccentricity];
     heading
         + &format!(
-            "{section}, wall V {} mm in strakes of {} mm, {bottom}\n{}\n{}\n\
+            "{section}, wall V {} mm in strakes of {} mm{headroom}, {bottom}\n{}\n{}\n\
              eccentricities: filling e_i {filling} mm, outlet e_o {outlet} mm\n",
             silo.wall_height(),
             text::runs(&silo.strakes),

@@ -50,6 +50,10 @@ fn any_description(random: &mut Random) -> Description {
         hopper_height,
         hopper_run,
         depths: Vec::new(),
+        headroom: match random.below(2) {
+            0 => 0,
+            _ => number(random),
+        },
         strakes,
     };
     Description { depths: any_depths(random, &silo), ..silo }
@@ -78,6 +82,12 @@ fn slipped(random: &mut Random) -> Description {
         5 => silo.hopper_run = number,
         6 => silo.strakes[0] = number as u16,
         7 => silo.depths[0] = number,
+        8 => silo.headroom = number,
+        9 => silo.headroom = silo.wall_height() as u32 - random.of(&[0, 1, 2]),
+        10 => {
+            (silo.filling_eccentricity, silo.hopper_height, silo.hopper_run) = (0, 0, 0);
+            silo.section = Section::Circle(silo.height() as u32 / 10 + random.of(&[0, 1]));
+        }
         _ => (),
     }
     silo
@@ -97,6 +107,7 @@ fn usual_description(random: &mut Random) -> Description {
         hopper_height,
         hopper_run,
         depths: Vec::new(),
+        headroom: random.of(&[0, 0, 300, 2500]),
         strakes,
     };
     Description { depths: any_depths(random, &silo), ..silo }
@@ -131,17 +142,20 @@ fn bytes_to_text_and_back_are_the_same() {
     println!("20,000 descriptions, of which {accepted} are accepted");
 }
 
+/// The rules on a silo's numbers, in the order in which the library tries them.
+const ORDER: [u32; 8] = [6, 7, 8, 9, 10, 11, 17, 12];
+
 /// The first refusal for which the tool finds a place is the library's.
 #[test]
 fn explanations_agree_with_the_library() {
     let mut random = Random(611);
-    let mut met = [0; 13];
+    let mut met = [0; 18];
     let mut shapes = [0; 3];
     for i in 0..100_000 {
         let silo = description(&mut random, i);
         let found = |number: &u32| !place::places(Refusal(*number), &silo).is_empty();
         let verdict = library::answers_length(&silo.to_bytes()).err();
-        assert_eq!(verdict, (6..=16).find(found).map(Refusal), "{silo:?}");
+        assert_eq!(verdict, ORDER.into_iter().find(found).map(Refusal), "{silo:?}");
         met[verdict.map_or(0, |refusal| refusal.0) as usize] += 1;
         if verdict.is_none() {
             let shape = Discharge::of(&silo).shape;
@@ -150,9 +164,10 @@ fn explanations_agree_with_the_library() {
         }
     }
     println!(
-        "100,000 descriptions, accepted and refused 1 to 12: {met:?}; of each shape {shapes:?}"
+        "100,000 descriptions, accepted and refused 1 to 17: {met:?}; of each shape {shapes:?}"
     );
-    assert!(shapes.iter().all(|count| *count > 1000) && met[6..].iter().all(|count| *count > 0));
+    let tried = ORDER.iter().all(|number| met[*number as usize] > 0);
+    assert!(shapes.iter().all(|count| *count > 1000) && tried);
 }
 
 type Slip = fn(&mut Description);
@@ -198,4 +213,60 @@ fn all_broken_limits_are_listed() {
     }
     println!("{several} silos with three or more broken limits");
     assert!(several > 1000);
+}
+
+/// The places of the limits that are broken beside the first, as a person reads them.
+fn others(first: Refusal, silo: &Description) -> Vec<String> {
+    let shown = |(refusal, place): (Refusal, place::Place)| {
+        format!("{}: {}: {}", refusal.0, place.field.shown(silo), place.why)
+    };
+    place::others(first, silo).into_iter().map(shown).collect()
+}
+
+/// A headroom is measured by a wall that is sound, and h by a headroom that is.
+#[test]
+fn a_headroom_at_fault_is_listed_and_leaves_h_for_later() {
+    let mut silo = usual_description(&mut Random(8));
+    (silo.section, silo.strakes, silo.depths) = (Section::Circle(2000), vec![2000; 5], vec![0]);
+    (silo.hopper_height, silo.hopper_run, silo.headroom) = (0, 0, 10_000);
+    assert_eq!(library::answers_length(&silo.to_bytes()), Err(Refusal::HEADROOM));
+    silo.product.weight = 999;
+    let why = "no grain is left at the wall; it must be under the sum of the strakes, 10000 mm";
+    assert_eq!(
+        others(Refusal::PRODUCT, &silo),
+        [format!("17: headroom = 10000 mm: {why}: at most 9999 mm, or strakes of more than 10000 mm together")]
+    );
+    let later = |size| Some(format!("limits measured by {size} are judged after the mend"));
+    assert_eq!(place::later(&silo), later("the headroom"));
+    silo.strakes[0] = 0;
+    assert_eq!(place::later(&silo), later("the strakes"));
+    assert_eq!(others(Refusal::STRAKE, &silo).len(), 1);
+}
+
+/// Whatever headroom is offered is accepted, and where none is offered none would be.
+#[test]
+fn offered_headrooms_are_accepted() {
+    let mut random = Random(1712);
+    let mut offered = 0;
+    for _ in 0..100_000 {
+        let silo = slipped(&mut random);
+        let accepted = |headroom: u32| Description { headroom, ..silo.clone() }.is_accepted();
+        let why = |refusal| place::places(refusal, &silo).remove(0).why;
+        let mend = match library::answers_length(&silo.to_bytes()) {
+            Err(Refusal::HEADROOM) => why(Refusal::HEADROOM)
+                .split_once(": ")
+                .map(|(_, mend)| mend.split(", or").next().unwrap_or_default().to_string()),
+            Err(Refusal::TOO_SLENDER) if silo.headroom > 0 => why(Refusal::TOO_SLENDER)
+                .split_once("headroom of ")
+                .map(|(_, mend)| mend.to_string()),
+            _ => continue,
+        };
+        let numbers: Vec<u32> =
+            mend.iter().flat_map(|mend| mend.split(' ')).filter_map(|n| n.parse().ok()).collect();
+        assert!(numbers.iter().all(|headroom| accepted(*headroom)), "{mend:?} {silo:?}");
+        assert!(mend.is_some() || !accepted(silo.wall_height() as u32 - 1), "{silo:?}");
+        offered += numbers.len();
+    }
+    println!("{offered} headrooms offered");
+    assert!(offered > 1000);
 }

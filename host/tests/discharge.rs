@@ -56,8 +56,11 @@ fn any_silo(random: &mut Random, slenderness: u32) -> Description {
         hopper_run,
         strakes: strakes(random, height - hopper_height),
         depths: Vec::new(),
+        headroom: 0,
     };
-    Description { depths: silo.edges().map(|(_, edge)| edge as u32).collect(), ..silo }
+    let depths = silo.edges().map(|(_, edge)| edge as u32).collect();
+    let headroom = random.below(1 + silo.wall_height() as usize) as u32 * random.below(2) as u32;
+    Description { depths, headroom, ..silo }
 }
 
 fn up(factor: Fraction, pressure: u32) -> u64 {
@@ -98,7 +101,7 @@ fn read(changes: &[(&str, &str)]) -> Description {
 
 /// Silos of d_c 5 m with C0 1.40: strakes, the kind with its factors as they are shown.
 const KINDS: [(&str, &str); 8] = [
-    ("2 x 3000, 1500 mm", "slender silo: h/d_c 1.5, discharge factors C_h 1.4 and C_w 1.1 (5.23)"),
+    ("2 x 3000, 1500 mm", SLENDER),
     (
         "2 x 3000, 1499 mm",
         "squat silo: h/d_c 1.4998, discharge factors C_h 1.39984 and C_w 1.09996 (5.34, 5.35)",
@@ -114,12 +117,26 @@ const KINDS: [(&str, &str); 8] = [
     ("10 x 3 m", "slender silo: h/d_c 6, discharge factors C_h 1.4 and C_w 1.1 (5.23)"),
 ];
 
+const SLENDER: &str = "slender silo: h/d_c 1.5, discharge factors C_h 1.4 and C_w 1.1 (5.23)";
+
 #[test]
 fn the_kind_at_each_limit() {
     for (strakes, shown) in KINDS {
         let silo = read(&[&FLAT[..], &[("strakes", strakes), ("depths", "0 mm")]].concat());
         assert_eq!(Discharge::of(&silo).shown(), shown);
     }
+}
+
+/// h is counted from the grain's surface.
+#[test]
+fn the_kind_with_headroom() {
+    let shown = |headroom| {
+        let wall = [("strakes", "5 x 1560 mm"), ("depths", "0 mm"), ("headroom", headroom)];
+        Discharge::of(&read(&[&FLAT[..], &wall].concat())).shown()
+    };
+    assert_eq!(shown("300 mm"), SLENDER);
+    assert_eq!(shown("301 mm"), KINDS[1].1);
+    assert_eq!(shown("2.8 m"), KINDS[4].1);
 }
 
 /// A hopper makes a bin slender, the shorter side counts, and a blank factor acts as it is read.

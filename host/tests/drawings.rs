@@ -19,7 +19,7 @@ use std::path::PathBuf;
 /// What differs from the silo of `common`; `true` has a flat floor.
 type Case = (&'static str, bool, &'static [(&'static str, &'static str)]);
 
-const CASES: [Case; 36] = [
+const CASES: [Case; 51] = [
     ("bin", false, &[]),
     ("tower", true, &[]),
     ("eccentric-tower", true, &[("e_o", "1 m"), ("e_i", "20 mm")]),
@@ -250,6 +250,89 @@ const CASES: [Case; 36] = [
             ("e_o", "12 m"),
         ],
     ),
+    ("headroom", false, &[("headroom", "300 mm"), ("e_i", "200 mm")]),
+    ("least-headroom", true, &[("headroom", "1 mm"), ("e_i", "1250 mm")]),
+    ("headroom-to-an-edge", false, &[("headroom", "2 m"), ("e_o", "1250 mm")]),
+    (
+        "headroom-over-edges",
+        true,
+        &[("strakes", "20 x 500 mm"), ("headroom", "3 m"), ("e_i", "1 m")],
+    ),
+    ("half-headroom", false, &[("headroom", "5 m"), ("e_i", "1250 mm")]),
+    ("greatest-headroom", false, &[("headroom", "9999 mm"), ("e_i", "500 mm")]),
+    ("greatest-headroom-over-a-floor", true, &[("headroom", "9999 mm")]),
+    (
+        "widest-tower-with-headroom",
+        true,
+        &[("diameter", "48 m"), ("strakes", "24 x 3 m"), ("headroom", "12345 mm"), ("e_i", "12 m")],
+    ),
+    (
+        "slender-tower-with-headroom",
+        true,
+        &[
+            ("diameter", "7300 mm"),
+            ("strakes", "24 x 3 m"),
+            ("headroom", "800 mm"),
+            ("e_i", "1825 mm"),
+        ],
+    ),
+    (
+        "wall-over-ten-widths",
+        true,
+        &[
+            ("diameter", "500 mm"),
+            ("strakes", "24 x 3 m"),
+            ("headroom", "67001 mm"),
+            ("e_i", "125 mm"),
+        ],
+    ),
+    (
+        "largest-bin-with-headroom",
+        false,
+        &[
+            ("diameter", "50 m"),
+            ("strakes", "24 x 3 m"),
+            ("hopper height", "25 m"),
+            ("hopper run", "24999 mm"),
+            ("headroom", "71999 mm"),
+            ("e_i", "12500 mm"),
+            ("e_o", "12500 mm"),
+        ],
+    ),
+    (
+        "low-store-with-headroom",
+        true,
+        &[("diameter", "50 m"), ("strakes", "3 x 1 m"), ("headroom", "400 mm"), ("e_i", "12.5 m")],
+    ),
+    (
+        "lowest-store-with-headroom",
+        true,
+        &[("diameter", "50 m"), ("strakes", "200 mm"), ("headroom", "199 mm")],
+    ),
+    (
+        "store-on-a-hopper-with-headroom",
+        false,
+        &[
+            ("diameter", "50 m"),
+            ("strakes", "2 x 3 m"),
+            ("hopper height", "12 m"),
+            ("hopper run", "24 m"),
+            ("headroom", "1500 mm"),
+            ("e_i", "1 mm"),
+        ],
+    ),
+    (
+        "smallest-bin-with-headroom",
+        false,
+        &[
+            ("diameter", "500 mm"),
+            ("strakes", "3 x 200 mm"),
+            ("hopper height", "200 mm"),
+            ("hopper run", "249 mm"),
+            ("headroom", "60 mm"),
+            ("e_i", "125 mm"),
+        ],
+    ),
 ];
 
 fn described(text: &str) -> (Description, silo::catalogue::Origin) {
@@ -290,8 +373,11 @@ fn drawing(name: &str, text: &str, labels: &Labels, units: Units) -> Drawing {
     let (silo, origin) = described(text);
     let loads = |silo: &Description| Loads::of(&silo.to_bytes(), silo.strakes.len());
     let refused = |refusal| panic!("{name}: {refusal:?}");
-    let edges = [0].into_iter().chain(silo.edges().map(|(_, edge)| edge as u32)).collect();
-    let curves = loads(&Description { depths: edges, ..silo.clone() }).unwrap_or_else(refused);
+    let edges = silo.edges().map(|(_, edge)| edge as u32);
+    let mut depths: Vec<u32> = edges.chain([0, silo.headroom]).collect();
+    depths.sort_unstable();
+    depths.dedup();
+    let curves = loads(&Description { depths, ..silo.clone() }).unwrap_or_else(refused);
     let loads = loads(&silo).unwrap_or_else(refused);
     let file = format!("orders/{name}.silo");
     let report = Report { file: &file, silo: &silo, origin: &origin, labels, loads: &loads, units };
@@ -300,8 +386,9 @@ fn drawing(name: &str, text: &str, labels: &Labels, units: Units) -> Drawing {
     said.push(report.discharge().shown());
     said.extend(labels.iter().map(|(_, text)| text.clone()));
     said.extend([format!("{name}.silo"), PROGRAM.to_string()]);
-    let mut numbers: Vec<u32> =
-        curves.rows().skip(1).flat_map(|row| [1, 2, 5, 6, 7].map(|i| row[i])).collect();
+    let is_edge = |row: &&[u32]| silo.edges().any(|(_, edge)| edge == u64::from(row[0]));
+    let edges = curves.rows().filter(is_edge);
+    let mut numbers: Vec<u32> = edges.flat_map(|row| [1, 2, 5, 6, 7].map(|i| row[i])).collect();
     match silo.is_flat() {
         true => numbers.push(loads.floor()),
         false => {
@@ -328,7 +415,7 @@ fn drawings() -> Vec<Drawing> {
         .iter()
         .map(|(name, flat, changes)| (name.to_string(), case(*flat, changes)))
         .collect();
-    for name in ["wheat-tower", "barley-bin", "cement", "flat-store"] {
+    for name in ["wheat-tower", "barley-bin", "cement", "flat-store", "headroom-bin"] {
         let text = String::from_utf8(sample(&format!("{name}.silo"))).expect(name);
         texts.push((name.to_string(), text));
     }
@@ -397,6 +484,8 @@ fn unsaid(drawing: &Drawing) -> Vec<String> {
     if drawing.silo.outlet_is_passed() {
         said.push("hopper calculated as symmetric".to_string());
     }
+    let parts = if drawing.silo.headroom > 0 { "V - g + H" } else { "V + H" };
+    said.push(format!("height h = {parts} = {} mm", drawing.silo.height()));
     let unsaid = said.iter().filter(|said| !page.contains(&bare(said)));
     unsaid.map(|said| format!("does not say {said}")).collect()
 }
@@ -411,6 +500,11 @@ fn heights(page: &Page) -> (f64, f64) {
     ends(page.shapes("wall").flatten().map(|point| point.1))
 }
 
+/// Of the grain's surface.
+fn surface(page: &Page) -> f64 {
+    ends(page.shapes("grain").flatten().map(|point| point.1)).0
+}
+
 /// Pixels for each mm across.
 fn scale(drawing: &Drawing) -> f64 {
     let (left, right) = ends(drawing.page.shapes("wall").flatten().map(|point| point.0));
@@ -421,12 +515,40 @@ fn scale(drawing: &Drawing) -> f64 {
 fn silo_is_to_scale(drawing: &Drawing) {
     let (silo, (brim, outlet), scale) = (&drawing.silo, heights(&drawing.page), scale(drawing));
     // both ends of a length are rounded to tenths of a pixel
-    let least = 0.11 + 0.11 * silo.height() as f64 / f64::from(silo.section.shorter_side());
+    let least = 0.11 + 0.11 * silo.built_height() as f64 / f64::from(silo.section.shorter_side());
     let near = |y: f64, z: u64| (y - brim - z as f64 * scale).abs() < least;
-    assert!(near(outlet, silo.height()), "{}: {brim} {outlet} {scale}", drawing.name);
+    assert!(near(outlet, silo.built_height()), "{}: {brim} {outlet} {scale}", drawing.name);
     for edge in drawing.page.shapes("edge") {
         let at_depth = silo.edges().any(|(_, z)| near(edge[0].1, z));
         assert!(at_depth, "{}: {brim} {edge:?} {scale}", drawing.name);
+    }
+}
+
+/// The grain lies at its depth in the silo. Where that is below the brim, a line says so in silo and chart, a dimension goes from
+/// the brim to it, and no curve leaves 0 above it.
+fn surface_has_its_depth(drawing: &Drawing) {
+    let (page, silo, name) = (&drawing.page, &drawing.silo, &drawing.name);
+    let ((brim, outlet), surface) = (heights(page), surface(page));
+    let part = |of: u64| f64::from(silo.headroom) / of as f64;
+    let in_silo = brim + (outlet - brim) * part(silo.built_height());
+    assert!((surface - in_silo).abs() < 0.11, "{name}: {surface} {in_silo}");
+    let lines: Vec<&Vec<(f64, f64)>> = page.shapes("surface").collect();
+    let said = |words: String| page.texts.iter().any(|text| bare(&text.words) == bare(&words));
+    let words = [format!("g {} mm", silo.headroom), "surface of the grain".to_string()];
+    assert_eq!(words.map(said), [silo.headroom > 0; 2], "{name}");
+    let [on_grain, in_chart] = lines[..] else {
+        return assert!(lines.is_empty() && silo.headroom == 0, "{name}: {lines:?}");
+    };
+    let mut frames = page.shapes("frame").filter(|frame| frame.len() == 4);
+    let chart = frames.find(|frame| frame[0].1 == brim).expect("a chart");
+    let due = brim + (chart[2].1 - brim) * part(silo.wall_height());
+    assert!(on_grain[0].1 == surface && (in_chart[0].1 - due).abs() < 0.11, "{name}: {lines:?}");
+    let tips = |y: f64| page.shapes("arrow").map(|head| head[0]).filter(move |tip| tip.1 == y);
+    let (right, level) = (on_grain[1].0, |x: f64| tips(surface).any(|tip| tip.0 == x));
+    assert!(tips(brim).any(|tip| tip.0 > right && level(tip.0)), "{name}: no dimension");
+    let above = silo.edges().filter(|(_, edge)| *edge < silo.headroom.into()).count() + 2;
+    for curve in page.shapes("horizontal").chain(page.shapes("friction")).filter(|c| c.len() > 2) {
+        assert!(curve[..above].iter().all(|point| point.0 == chart[0].0), "{name}: {curve:?}");
     }
 }
 
@@ -446,7 +568,8 @@ fn arrows_at_openings(drawing: &Drawing) {
     let down: Vec<(f64, f64)> = down.map(|head| head[0]).collect();
     let near = |x: f64, tip: &(f64, f64)| (tip.0 - x).abs() < 0.2;
     let name = &drawing.name;
-    assert!(down.iter().any(|tip| tip.1 == brim && near(filling, tip)), "{name}: {down:?}");
+    let surface = surface(page);
+    assert!(down.iter().any(|tip| tip.1 == surface && near(filling, tip)), "{name}: {down:?}");
     let below: Vec<&(f64, f64)> = down.iter().filter(|tip| tip.1 > outlet + 15.0).collect();
     assert!(below.len() == 1 && near(outflow, below[0]), "{name}: {below:?}, {outflow}");
     for (x, from, to) in [(filling, 0.0, brim), (eccentric, outlet, outlet + 20.0)] {
@@ -477,6 +600,7 @@ fn every_drawing_can_be_printed_and_read() {
     assert!(faults.is_empty(), "{faults}");
     for drawing in &drawings {
         silo_is_to_scale(drawing);
+        surface_has_its_depth(drawing);
         arrows_at_openings(drawing);
         hopper_has_leaders(drawing);
     }
@@ -531,7 +655,9 @@ fn any_silo(random: &mut Random) -> String {
     let height = run / 2 + 1 + random.below(steeper);
     let mut millimetres = |most: usize| format!("{} mm", random.below(most + 1) * random.below(2));
     let (filling, outlet) = (millimetres(width / 4), millimetres(width / 4));
+    let headroom = millimetres(200 * strakes.len());
     let lines = [
+        ("headroom", headroom),
         ("diameter", format!("{width} mm")),
         ("strakes", format!("{} mm", strakes.join(", "))),
         ("filling eccentricity", filling),
@@ -561,6 +687,7 @@ fn any_drawing_can_be_printed_and_read() {
         let drawing = drawing("any", &text, &labels, units);
         assert_eq!(faults(&drawing), Vec::<String>::new(), "{text}");
         silo_is_to_scale(&drawing);
+        surface_has_its_depth(&drawing);
         arrows_at_openings(&drawing);
         hopper_has_leaders(&drawing);
         drawn += 1;

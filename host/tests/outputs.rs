@@ -90,9 +90,11 @@ fn a_product_is_shown_with_its_origin() {
 const SQUAT: Changes = &[("strakes", "2 x 2000 mm"), ("depths", "0 mm")];
 const LOW: Changes = &[("strakes", "2000 mm"), ("depths", "0 mm")];
 const LOW_FLAT: Changes = &[LOW[0], LOW[1], FLAT[0], FLAT[1], FLAT[2]];
+const HEADROOM: Changes = &[("headroom", "300 mm")];
+const LOW_HEADROOM: Changes = &[LOW[0], LOW[1], FLAT[0], FLAT[1], FLAT[2], HEADROOM[0]];
 
 /// A note's words, and silos with and without it.
-const NOTES: [(&str, &[Changes], &[Changes]); 11] = [
+const NOTES: [(&str, &[Changes], &[Changes]); 15] = [
     ("ENV 1991-4:1995, which EN 1991-4:2006 has replaced; characteristic values", &[&[]], &[]),
     ("P_w is the filling value", &[&[], &[("diameter", "-"), ("sides", "4.5 x 6 m")]], &[]),
     ("on discharge C_w 1.1, the factor on wall friction, applies to it too (5.20)", &[&[]], &[SQUAT, LOW]),
@@ -110,8 +112,16 @@ const NOTES: [(&str, &[Changes], &[Changes]); 11] = [
     ),
     (
         "Under a heap 5.37 gives a greater one for squat silos, which is not calculated: this errs on the light side",
-        &[LOW_FLAT],
+        &[LOW_FLAT, LOW_HEADROOM],
         &[&[], SQUAT, LOW, &FLAT],
+    ),
+    ("its load (5.13) is for grain level with the brim", &[LOW_FLAT], &[LOW_HEADROOM]),
+    ("Headroom g = 300 mm: z is counted from the brim, loads and h from", &[HEADROOM], &[&[]]),
+    ("its load (5.13) is for grain that lies level", &[LOW_HEADROOM], &[LOW_FLAT]),
+    (
+        "equivalent surface (1.4.1), g below it; above the surface loads are 0. Filled higher, they are greater.",
+        &[HEADROOM, LOW_HEADROOM],
+        &[&[], &[("headroom", "0 mm")], &[("headroom", "")]],
     ),
     (
         "does not hold for corrugated walls",
@@ -181,6 +191,12 @@ fn the_patch_acts_on_a_band_or_on_squares() {
         let page = plain(&String::from_utf8(outcome.output).expect("UTF-8"));
         assert_eq!(page.contains(&plain("The wall is lower than s.")), is_lower, "{page}");
     }
+    const LEAVES: [Changes; 2] = [&[("headroom", "9 m")], &[("headroom", "9001 mm")]];
+    let said = |changes| {
+        let page = plain(&output(changes, Format::Table, Units::Whole));
+        page.contains(&plain("The grain at the wall is lower than s."))
+    };
+    assert_eq!(LEAVES.map(said), [false, true]);
 }
 
 const LABELS: Changes = &[
@@ -374,8 +390,8 @@ fn columns_never_run_together() {
 /// Symbols and spellings of the same silo.
 #[test]
 fn names_in_greek_and_common_spellings() {
-    let plain = commands::sheet("tower.silo", text_with(&[]).as_bytes()).output;
-    const SPELT: [(&str, &str); 22] = [
+    let plain = commands::sheet("tower.silo", text_with(HEADROOM).as_bytes()).output;
+    const SPELT: [(&str, &str); 27] = [
         ("weight", "γ"),
         ("weight", "gamma"),
         ("weight", "unit weight"),
@@ -398,9 +414,14 @@ fn names_in_greek_and_common_spellings() {
         ("hopper height", "H"),
         ("hopper run", "r"),
         ("depths", "z"),
+        ("headroom", "g"),
+        ("headroom", "Headroom"),
+        ("headroom", "head-room"),
+        ("headroom", "freeboard"),
+        ("headroom", "Ullage"),
     ];
     for (name, spelling) in SPELT {
-        let text = text_with(&[]).replace(&format!("{name} ="), &format!("{spelling} ="));
+        let text = text_with(HEADROOM).replace(&format!("{name} ="), &format!("{spelling} ="));
         let outcome = commands::sheet("tower.silo", text.as_bytes());
         assert_eq!((outcome.status, outcome.messages.as_str()), (0, ""), "{spelling}");
         assert_eq!(outcome.output, plain, "{spelling}");

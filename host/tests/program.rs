@@ -39,17 +39,18 @@ fn scratch(name: impl AsRef<Path>) -> PathBuf {
     PathBuf::from(env!("CARGO_TARGET_TMPDIR")).join(name)
 }
 
-const SAMPLES: [(&str, i32); 6] = [
+const SAMPLES: [(&str, i32); 7] = [
     ("wheat-tower", 0),
     ("barley-bin", 0),
     ("cement", 0),
     ("corrugated-bin", 0),
     ("flat-store", 0),
+    ("headroom-bin", 0),
     ("blank-friction", 1),
 ];
 
 /// Outputs of the samples that are not tables: where they are stored, and the command.
-const OUTPUTS: [(&str, &[&str]); 11] = [
+const OUTPUTS: [(&str, &[&str]); 14] = [
     ("samples/wheat-tower.csv", &["loads", "samples/wheat-tower.silo", "--csv"]),
     ("samples/barley-bin.csv", &["loads", "--csv", "samples/barley-bin.silo"]),
     ("samples/corrugated-bin.csv", &["loads", CORRUGATED, "--csv-semicolon", "--kpa"]),
@@ -57,10 +58,13 @@ const OUTPUTS: [(&str, &[&str]); 11] = [
     ("samples/barley-bin.json", &["loads", "samples/barley-bin.silo", "--json"]),
     ("samples/flat-store.csv", &["loads", "samples/flat-store.silo", "--csv"]),
     ("samples/flat-store.json", &["loads", "samples/flat-store.silo", "--json"]),
+    ("samples/headroom-bin.csv", &["loads", "samples/headroom-bin.silo", "--csv"]),
+    ("samples/headroom-bin.json", &["loads", "samples/headroom-bin.silo", "--json"]),
     ("docs/wheat-tower.svg", &["draw", "samples/wheat-tower.silo", "-o", "-"]),
     ("docs/barley-bin.svg", &["draw", "samples/barley-bin.silo", "-o", "-"]),
     ("docs/corrugated-bin.svg", &["draw", CORRUGATED, "--kpa", "-o", "-"]),
     ("docs/flat-store.svg", &["draw", "samples/flat-store.silo", "-o", "-"]),
+    ("docs/headroom-bin.svg", &["draw", "samples/headroom-bin.silo", "-o", "-"]),
 ];
 const CORRUGATED: &str = "samples/corrugated-bin.silo";
 

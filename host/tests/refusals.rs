@@ -2,13 +2,18 @@
 
 mod common;
 
-use common::{sample, stored, text_with};
+use common::{sample, stored, text_with, FLAT};
 use silo::commands::{self, Format};
 use silo::library::{self, Refusal};
 use silo::text;
 use silo::units::Units;
 
 type Changes = &'static [(&'static str, &'static str)];
+
+/// Ten times as wide is less than the wall of 10 m.
+const NARROW: (&str, &str) = ("diameter", "900 mm");
+const TOO_SLENDER_WITH_HEADROOM: Changes =
+    &[NARROW, FLAT[0], FLAT[1], FLAT[2], ("headroom", "1 m")];
 
 /// Texts that are refused: the number, what is wrong, and the lines that differ from an accepted silo.
 const TEXTS: &[(u32, &str, Changes)] = &[
@@ -69,6 +74,29 @@ const TEXTS: &[(u32, &str, Changes)] = &[
         "just too slender",
         &[("diameter", "1000 mm"), ("hopper run", "-"), ("hopper height", "-"), ("floor", "flat")],
     ),
+    (12, "too slender from the grain's surface down", TOO_SLENDER_WITH_HEADROOM),
+    (17, "headroom of the wall's height", &[("headroom", "10 m")]),
+    (17, "headroom below the wall's foot", &[("headroom", "10001 mm")]),
+    (17, "headroom in metres for millimetres", &[("headroom", "300 m")]),
+    (17, "headroom over any wall", &[("headroom", "4000001 mm")]),
+    (17, "headroom of the highest wall", &[("strakes", "24 x 3 m"), ("g", "72 m")]),
+    (
+        17,
+        "headroom before a shape that needs some",
+        &[NARROW, FLAT[0], FLAT[1], FLAT[2], ("headroom", "10 m")],
+    ),
+    (
+        17,
+        "headroom before a shape that no headroom mends",
+        &[
+            ("diameter", "500 mm"),
+            ("hopper height", "5 m"),
+            ("hopper run", "249 mm"),
+            ("headroom", "10 m"),
+        ],
+    ),
+    (11, "a depth before the headroom", &[("depths", "10001 mm"), ("headroom", "10 m")]),
+    (10, "strakes before the headroom", &[("strakes", "5 x 20 mm"), ("headroom", "300 mm")]),
     (
         7,
         "every limit at once",
@@ -157,6 +185,16 @@ fn changed(at: usize, byte: u8) -> Vec<u8> {
     sheet
 }
 
+/// The sheet with a seventh record of that payload length and kind, and so many bytes of 0 behind the header.
+fn with_seventh(length: u16, kind: u16, bytes: usize) -> Vec<u8> {
+    let [length, kind] = [length, kind].map(u16::to_le_bytes);
+    [&sheet()[..], &length, &kind, &vec![0; bytes]].concat()
+}
+
+fn with_headroom(headroom: u32) -> Vec<u8> {
+    [&with_seventh(4, 8, 0)[..], &headroom.to_le_bytes()].concat()
+}
+
 /// Sheets of bytes that are refused: the number, what is wrong, and the bytes.
 fn sheets() -> Vec<(u32, &'static str, Vec<u8>)> {
     let longer = |more: usize| [sheet(), vec![0; more]].concat();
@@ -172,13 +210,24 @@ fn sheets() -> Vec<(u32, &'static str, Vec<u8>)> {
         (4, "product of 9 bytes", changed(8, 9)),
         (4, "no strakes", changed(46, 0)),
         (4, "half a depth", changed(60, 6)),
-        (5, "bytes left over", longer(3)),
+        (2, "one byte behind the sixth record", longer(1)),
+        (2, "half a header of the headroom", longer(3)),
+        (2, "headroom without its payload", with_seventh(4, 8, 0)),
+        (2, "headroom cut short", with_seventh(4, 8, 3)),
+        (3, "zeros behind the sixth record", longer(4)),
+        (3, "kind of the headroom", with_seventh(4, 9, 4)),
+        (3, "kind of the headroom before its length", with_seventh(5, 7, 5)),
+        (4, "headroom of 8 bytes", with_seventh(8, 8, 8)),
+        (4, "headroom of no bytes", with_seventh(0, 8, 0)),
+        (4, "length of the headroom before its payload", with_seventh(3, 8, 2)),
+        (5, "bytes left over", with_seventh(4, 8, 7)),
         (6, "diameter", changed(6, 1)),
         (7, "friction", changed(18, 9)),
         (8, "outlet eccentricity", changed(31, 8)),
         (9, "hopper height", changed(40, 1)),
         (10, "third strake", changed(55, 20)),
         (11, "second depth", changed(70, 1)),
+        (17, "headroom", with_headroom(10_000)),
     ]
 }
 
@@ -191,10 +240,23 @@ fn every_refusal_of_a_sheet() {
     for (number, title, bytes) in sheets() {
         refused(&mut page, number, title, "tower.sheet", &bytes);
     }
-    for number in 1..=12 {
+    for number in (1..=12).chain([17]) {
         assert!(page.contains(&format!("refused, {number}:")), "refusal {number} is not tried");
     }
     stored("host/tests/golden/refusals.txt", page.as_bytes());
+}
+
+/// A headroom just under the wall's height is accepted, and so is a seventh record that says there is none.
+#[test]
+fn headrooms_that_are_accepted() {
+    for headroom in [0, 1, 9999] {
+        assert!(library::answers_length(&with_headroom(headroom)).is_ok(), "{headroom}");
+    }
+    for mended in ["1001 mm", "9999 mm"] {
+        let text = text_with(&[&TOO_SLENDER_WITH_HEADROOM[..4], &[("headroom", mended)]].concat());
+        let outcome = commands::loads("tower.silo", text.as_bytes(), Format::Table, Units::Whole);
+        assert_eq!(outcome.status, 0, "{}", outcome.messages);
+    }
 }
 
 /// 14 to 16 are faults of a host program, which this one does not make.
@@ -218,7 +280,7 @@ fn refusals_of_a_host() {
 #[test]
 fn every_refusal_has_words() {
     let words: String =
-        (0..=17).map(|number| format!("{number}: {}\n", Refusal(number).meaning())).collect();
+        (0..=18).map(|number| format!("{number}: {}\n", Refusal(number).meaning())).collect();
     stored("host/tests/golden/meanings.txt", words.as_bytes());
 }
 

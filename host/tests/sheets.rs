@@ -40,7 +40,13 @@ fn agrees(outcome: &Outcome, bytes: &[u8]) {
 #[test]
 fn damaged_sheets_are_judged_by_the_library_alone() {
     let mut random = Random(19_914);
-    let names = ["wheat-tower.silo", "barley-bin.silo", "cement.silo", "flat-store.silo"];
+    let names = [
+        "wheat-tower.silo",
+        "barley-bin.silo",
+        "cement.silo",
+        "flat-store.silo",
+        "headroom-bin.silo",
+    ];
     let sheets = names.map(|name| {
         let text = String::from_utf8(sample(name)).expect(name);
         text::read(&text).expect(name).description.to_bytes()

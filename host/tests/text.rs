@@ -53,7 +53,22 @@ const BAD: &[&[(&str, &str)]] = &[
     &[("height", "16 m")],
     &[("h", "16 m")],
     &[("wall height", "16 m")],
-    &[("headroom", "300 mm")],
+    &[("headroom", "300")],
+    &[("headroom", "-300 mm")],
+    &[("headroom", "0.5 mm")],
+    &[("headroom", "0.0005 m")],
+    &[("headroom", "1.000 mm")],
+    &[("headroom", "0,3 m")],
+    &[("headroom", "300 kg")],
+    &[("headroom", "5 %")],
+    &[("headroom", "300, 400 mm")],
+    &[("headroom", "none")],
+    &[("headroom", "99999 m"), ("g", "300 mm")],
+    &[("headroom", "5000 km")],
+    &[("headroom", "4294968 m")],
+    &[("headrom", "300 mm")],
+    &[("G", "300 mm")],
+    &[("fill level", "9.7 m")],
     &[("angle of repose", "25 deg")],
     &[("volume", "300 m3")],
     &[("dimaeter", "5 m")],
@@ -223,7 +238,7 @@ const BAD: &[&[(&str, &str)]] = &[
 ];
 
 /// Texts that no line of `BAD` makes.
-const BROKEN: [&str; 14] = [
+const BROKEN: [&str; 15] = [
     "diameter -> 5000 mm\nstrakes := 5 x 2 m\nwidth = 5 m\nclient = x\n",
     "depths = 0, 100, 200, 300, 400, 500, 600, 700, 800, 900, 1000, 1100, 1200, 1300, 1400, 1500, 16OO, 1700 mm\n",
     "diametr = 5 m\nstrake = 5 x 2 m\nwieght = 9 kN/m3\n",
@@ -232,6 +247,7 @@ const BROKEN: [&str; 14] = [
     "product = qqqqqqqqqqqqqqqqqqqqqqqqqqqqqqqqqqqqqqqqqqqqqqqqqqqqqqqqqqqqqqqqqqqqqqqqqqqqqqqqqqqqqqqqqqqqqqqqqqqqqqqqq\n",
     "product = wheat\nwall = corrugated\nfriction =\nfactor = 0\n",
     "diameter 5000 mm\n",
+    "headroom: 300 mm\n",
     "diameter: 5000 mm\n",
     "\n\n# nothing but a comment\n",
     "= 5\n",
@@ -399,8 +415,9 @@ fn editors_and_spacing_make_no_difference() {
     }
 }
 
-const WORDS: [&str; 24] = [
+const WORDS: [&str; 25] = [
     "diameter",
+    "headroom",
     "sides",
     "product",
     "wall",
@@ -463,7 +480,13 @@ fn names_a_line(error: &Error, lines: usize) -> bool {
 #[test]
 fn damaged_texts_give_errors_with_lines_and_never_a_panic() {
     let mut random = Random(71_019_914);
-    let names = ["wheat-tower.silo", "barley-bin.silo", "cement.silo", "blank-friction.silo"];
+    let names = [
+        "wheat-tower.silo",
+        "barley-bin.silo",
+        "cement.silo",
+        "blank-friction.silo",
+        "headroom-bin.silo",
+    ];
     let texts = names.map(|name| String::from_utf8(sample(name)).expect(name));
     let (mut read, mut unread, mut accepted) = (0, 0, 0);
     for i in 0..60_000 {

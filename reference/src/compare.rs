@@ -1,18 +1,18 @@
-//! The comparison of a library with document 01 and with C-11 of document 02, for sheets of any kind.
+//! The comparison of a library with document 01 and with C-11 and C-13 of document 02, for sheets of any kind.
 //!
 //! For an accepted sheet: filling pressures and P_w inside their bands, each load made from filling equal to its formula over the
-//! filling pressures and inside its allowance, nothing falling with depth. For a refused one: its number from both calls, and the
-//! list as it was.
+//! filling pressures and inside its allowance, all at the load depth, nothing falling with depth. For a refused one: its number from both
+//! calls, and the list as it was. For a sheet of six records, accepted or not: the same with a headroom of 0.
 
 use crate::calls::{expect, Calls, Difference, Library, Outcome, UNTOUCHED, UNTOUCHED_BYTE};
 use crate::formulas::{self, Discharge, Filling};
 use crate::fraction::{fraction, least, whole, Fraction, Real};
-use crate::sheet::{parse, Silo};
+use crate::sheet::{parse, records, Silo};
 use crate::{catalogue, governing};
 use std::fmt;
 
-/// The refusals of the two calls that take a sheet; 13 is retired.
-pub const REFUSALS: [usize; 13] = [1, 2, 3, 4, 5, 6, 7, 8, 9, 10, 11, 12, 14];
+/// The refusals of the two calls that take a sheet, in their order; 13 is retired.
+pub const REFUSALS: [usize; 14] = [1, 2, 3, 4, 5, 6, 7, 8, 9, 10, 11, 17, 12, 14];
 
 /// Kinds of silos by h/d_c: the three of the discharge factors, their limits apart.
 const SHAPES: [&str; 5] = ["below 1", "1", "between 1 and 1.5", "1.5", "above 1.5"];
@@ -24,18 +24,40 @@ fn shape(silo: &Silo) -> usize {
     limits.into_iter().filter(|reached| *reached).count()
 }
 
+/// Kinds of sheets by their headroom.
+const HEADROOMS: [&str; 3] = ["no record", "0", "above 0"];
+
+fn headroom(silo: &Silo) -> usize {
+    match silo.headroom {
+        None => 0,
+        Some(0) => 1,
+        Some(_) => 2,
+    }
+}
+
+/// Places of rows on sheets with a headroom above 0.
+const PLACES: [&str; 3] = ["above the surface", "at it", "below"];
+
 /// What was compared.
 #[derive(Default)]
 pub struct Tally {
-    /// Accepted sheets by h/d_c.
+    /// Accepted sheets by h/d_c, and by headroom.
     shapes: [u64; SHAPES.len()],
+    headrooms: [u64; HEADROOMS.len()],
     /// Sheets by the number of their refusal; at 14 lists of a wrong length, each lent with an accepted sheet.
-    pub refused: [u64; 15],
+    pub refused: [u64; 18],
+    /// Rows, and those on sheets with a headroom above 0 by their place.
     pub rows: u64,
+    places: [u64; PLACES.len()],
     pub strakes: u64,
+    /// Sheets of six records, each beside the same with a headroom of 0.
+    zero_headrooms: u64,
     pub pairs: u64,
-    /// Pairs whose discharge factors differ.
+    /// Pairs whose discharge factors, or whose headrooms, differ.
     pub unlike_pairs: u64,
+    pub unlike_headrooms: u64,
+    /// Silos with a headroom above 0 beside one that is level with its brim.
+    pub levels: u64,
     /// Filling pressures, and those of them that are less than 1 + 1/64 above.
     pub pressures: u64,
     pub tight: u64,
@@ -49,21 +71,40 @@ impl Tally {
     }
 
     pub fn sheets(&self) -> u64 {
-        self.accepted() + self.refused[..14].iter().sum::<u64>()
+        self.accepted() + self.refused.iter().sum::<u64>() - self.refused[14]
+    }
+
+    /// The kinds that accepted sheets and their rows are told apart by, with the count of each.
+    fn kinds(&self) -> [(&str, Vec<(&str, u64)>); 3] {
+        let counted = |names: &[&'static str], counts: &[u64]| {
+            names.iter().copied().zip(counts.iter().copied()).collect()
+        };
+        [
+            ("accepted, by h/d_c", counted(&SHAPES, &self.shapes)),
+            ("accepted, by headroom", counted(&HEADROOMS, &self.headrooms)),
+            ("rows under a headroom", counted(&PLACES, &self.places)),
+        ]
     }
 }
 
 impl fmt::Display for Tally {
     fn fmt(&self, f: &mut fmt::Formatter) -> fmt::Result {
-        let shapes = SHAPES.iter().zip(self.shapes).map(|(name, count)| format!("{name}: {count}"));
         let refused = REFUSALS.map(|n| format!("{n}: {}", self.refused[n]));
         writeln!(f, "{} sheets compared, {} of them accepted", self.sheets(), self.accepted())?;
-        writeln!(f, "accepted, by h/d_c: {}", shapes.collect::<Vec<_>>().join(", "))?;
+        for (kind, counts) in self.kinds() {
+            let counts: Vec<_> = counts.iter().map(|(name, n)| format!("{name}: {n}")).collect();
+            writeln!(f, "{kind}: {}", counts.join(", "))?;
+        }
         writeln!(f, "refused, by number: {}", refused.join(", "))?;
         writeln!(
             f,
-            "accepted sheets had {} rows and {} strakes; {} pairs with one section and product, {} of them with unlike factors",
-            self.rows, self.strakes, self.pairs, self.unlike_pairs
+            "accepted sheets had {} rows and {} strakes; {} sheets of six records beside the same with a headroom of 0",
+            self.rows, self.strakes, self.zero_headrooms
+        )?;
+        writeln!(
+            f,
+            "{} pairs with one section and product, {} of them with unlike factors, {} with unlike headrooms; {} beside a level silo",
+            self.pairs, self.unlike_pairs, self.unlike_headrooms, self.levels
         )?;
         write!(
             f,
@@ -76,6 +117,8 @@ impl fmt::Display for Tally {
 /// A row of the answer list.
 type Row = [u64; 8];
 const COLUMNS: [&str; 8] = ["z", "p_hf", "p_wf", "p_vf", "P_w", "p_he", "p_we", "p_p"];
+/// A row and its load depth.
+type AtDepth = (u64, Row);
 
 pub struct Comparison<'a> {
     pub calls: Calls<'a>,
@@ -90,8 +133,10 @@ impl<'a> Comparison<'a> {
     /// Prints what was compared; an accepted sheet of each kind and each of these refusals have to be among it.
     pub fn report(&self, refusals: impl IntoIterator<Item = usize>) {
         println!("{}", self.tally);
-        for (name, count) in SHAPES.iter().zip(self.tally.shapes) {
-            assert!(count > 0, "no sheet with h/d_c {name} was accepted");
+        for (kind, counts) in self.tally.kinds() {
+            for (name, count) in counts {
+                assert!(count > 0, "{kind}: none is {name}");
+            }
         }
         for number in refusals {
             assert!(self.tally.refused[number] > 0, "refusal {number} was never reached");
@@ -115,6 +160,25 @@ impl<'a> Comparison<'a> {
         expect(told == refusal, bytes, || format!("answers_length {told}, refusal {refusal} due"))?;
         lengths.iter().try_for_each(|length| self.untouched(bytes, refusal, *length))?;
         self.tally.refused[refusal as usize] += 1;
+        match records(bytes) {
+            Ok(silo) => self.zero_headroom(&silo, lengths),
+            Err(_) => Ok(()),
+        }
+    }
+
+    /// Six records, accepted or not, and the same with a headroom of 0: both calls answer alike, and leave alike lists.
+    fn zero_headroom(&mut self, silo: &Silo, lengths: &[usize]) -> Outcome {
+        if silo.headroom.is_some() {
+            return Ok(());
+        }
+        let (six, seven) = (silo.sheet(), Silo { headroom: Some(0), ..silo.clone() }.sheet());
+        let alike = self.calls.answers_length(&six)? == self.calls.answers_length(&seven)?;
+        expect(alike, &seven, || "answers_length differs with a headroom of 0".into())?;
+        for length in lengths {
+            let alike = self.calls.loads(&six, *length)? == self.calls.loads(&seven, *length)?;
+            expect(alike, &seven, || format!("list of {length} differs with a headroom of 0"))?;
+        }
+        self.tally.zero_headrooms += 1;
         Ok(())
     }
 
@@ -166,35 +230,60 @@ impl<'a> Comparison<'a> {
             self.untouched(&bytes, 14, length)?;
             self.tally.refused[14] += 1;
         }
-        self.never_falls(&bytes, [listed, edges].concat(), &[1, 2, 3, 5, 6, 7])?;
+        let all = at_load_depths(silo, [listed, edges].concat());
+        self.never_falls(&bytes, all, &[1, 2, 3, 5, 6, 7])?;
+        self.zero_headroom(silo, &[list.len(), list.len() + 1])?;
         self.tally.shapes[shape(silo)] += 1;
+        self.tally.headrooms[headroom(silo)] += 1;
         self.tally.strakes += silo.strakes.len() as u64;
         Ok(())
     }
 
-    /// Two accepted sheets with equal first two records: the filling pressures, which section, product and depth alone decide. The
+    /// The rows that an accepted sheet lists.
+    fn listed(&self, silo: &Silo) -> Result<Vec<AtDepth>, Difference> {
+        Ok(at_load_depths(silo, rows(silo, &self.answers(silo)?)))
+    }
+
+    /// Two accepted sheets with equal first two records: the filling pressures, which section, product and load depth alone decide. The
     /// discharge loads rest on h too, in which the sheets may differ.
     pub fn pair(&mut self, one: &Silo, other: &Silo) -> Outcome {
-        let both = [rows(one, &self.answers(one)?), rows(other, &self.answers(other)?)].concat();
+        let both = [self.listed(one)?, self.listed(other)?].concat();
         self.never_falls(&[one.sheet(), other.sheet()].concat(), both, &[1, 2, 3])?;
         self.tally.pairs += 1;
         self.tally.unlike_pairs += u64::from(Discharge::of(one) != Discharge::of(other));
+        self.tally.unlike_headrooms += u64::from(one.g() != other.g());
         Ok(())
     }
 
-    /// Nothing falls with depth, and equal depths have equal numbers, in those columns. P_w is not among them, since document 01
-    /// asks this of pressures; it is only counted.
-    fn never_falls(&mut self, bytes: &[u8], mut rows: Vec<Row>, columns: &[usize]) -> Outcome {
+    /// An accepted sheet, and one of the same section and product without headroom that lists its load depths: the same filling pressures
+    /// and P_w.
+    pub fn level(&mut self, silo: &Silo, level: &Silo) -> Outcome {
+        let (under, level_rows) = (self.listed(silo)?, self.listed(level)?);
+        for (depth, row) in under {
+            let same = level_rows.iter().any(|(z, at_z)| *z == depth && at_z[1..5] == row[1..5]);
+            expect(same, &[silo.sheet(), level.sheet()].concat(), || {
+                format!("filling at {} differs from that at {depth} of a level silo", row[0])
+            })?;
+        }
+        self.tally.levels += u64::from(silo.g() > 0);
+        Ok(())
+    }
+
+    /// Nothing falls with the load depth, and equal ones have equal numbers, in those columns. P_w is not among them, since document 01
+    /// asks this of pressures; it is only counted. On one sheet the load depth never falls with z.
+    fn never_falls(&mut self, bytes: &[u8], mut rows: Vec<AtDepth>, columns: &[usize]) -> Outcome {
         rows.sort();
         for pair in rows.windows(2) {
-            self.tally.line_falls += u64::from(pair[0][4] > pair[1][4]);
-            let depths = (pair[0][0], pair[1][0]);
+            let [(upper, above), (lower, below)] = [pair[0], pair[1]];
+            self.tally.line_falls += u64::from(above[4] > below[4]);
             for column in columns {
-                let (above, below) = (pair[0][*column], pair[1][*column]);
+                let (above, below) = (above[*column], below[*column]);
                 let name = COLUMNS[*column];
-                expect(above <= below, bytes, || format!("{name} falls between {depths:?}"))?;
-                let differs = depths.0 == depths.1 && above != below;
-                expect(!differs, bytes, || format!("{name} has two values at {}", depths.0))?;
+                expect(above <= below, bytes, || {
+                    format!("{name} falls between the load depths {upper} and {lower}")
+                })?;
+                let differs = upper == lower && above != below;
+                expect(!differs, bytes, || format!("{name} has two values at load depth {upper}"))?;
             }
         }
         Ok(())
@@ -204,8 +293,8 @@ impl<'a> Comparison<'a> {
         let [z, p_hf, p_wf, _, line, p_he, p_we, p_p] = *row;
         let named = |column: usize| format!("{} at depth {depth}", COLUMNS[column]);
         expect(z == depth, &silo.sheet(), || format!("z is {z} at depth {depth}"))?;
-        let zeros = depth > 0 || row[1..] == [0; 7];
-        expect(zeros, &silo.sheet(), || format!("depth 0 has {row:?}"))?;
+        let zeros = silo.load_depth(depth) > 0 || row[1..] == [0; 7];
+        expect(zeros, &silo.sheet(), || format!("load depth 0 has {row:?}"))?;
         let pressures = [&exact.horizontal, &exact.friction, &exact.vertical];
         for (i, pressure) in pressures.into_iter().enumerate() {
             band(silo, &named(i + 1), row[i + 1], pressure, 2)?;
@@ -224,6 +313,10 @@ impl<'a> Comparison<'a> {
         band(silo, &named(6), p_we, &exact.friction.times(&c_w), 4)?;
         band(silo, &named(7), p_p, &horizontal.times(&patch), 3)?;
         self.tally.rows += 1;
+        if silo.g() > 0 {
+            let place = usize::from(depth >= silo.g()) + usize::from(depth > silo.g());
+            self.tally.places[place] += 1;
+        }
         Ok(())
     }
 
@@ -257,6 +350,10 @@ fn rows(silo: &Silo, list: &[u64]) -> Vec<Row> {
     rows.map(|row| row.try_into().expect("eight numbers")).collect()
 }
 
+fn at_load_depths(silo: &Silo, rows: Vec<Row>) -> Vec<AtDepth> {
+    rows.into_iter().map(|row| (silo.load_depth(row[0]), row)).collect()
+}
+
 /// A load is its formula over whole numbers, rounded up once.
 fn made(silo: &Silo, name: &str, load: u64, formula: &Fraction) -> Outcome {
     expect(formula.rounds_up_to(load), &silo.sheet(), || {
@@ -275,7 +372,7 @@ fn band(silo: &Silo, name: &str, load: u64, exact: &Real, allowance: u64) -> Out
     })
 }
 
-/// The ten bottom numbers over p_vf(V), whole and exact; the last filling is the one at V.
+/// The ten bottom numbers over p_vf at V, whole and exact; the last filling is the one at V.
 fn judge_bottom(silo: &Silo, bottom: &[u64], p_vf: u64, fillings: &[Filling]) -> Outcome {
     let exact = &fillings[fillings.len() - 1].vertical;
     if silo.hopper_height == 0 {

@@ -1,5 +1,5 @@
-//! The loads of document 01, squat bins as in C-11 of document 02, as exact numbers: lengths in metres, hundredths as plain ratios, nothing
-//! rounded.
+//! The loads of document 01, squat bins as in C-11 of document 02 and headroom as in C-13, as exact numbers: lengths in metres, hundredths
+//! as plain ratios, nothing rounded. A depth z is the sheet's own; the loads there are those at its load depth.
 
 use crate::exponential::exponential;
 use crate::fraction::{fraction, whole, Fraction, Real};
@@ -40,9 +40,9 @@ fn z0(silo: &Silo, row: Row) -> Fraction {
     radius(silo).over(&ratio.times(&friction))
 }
 
-/// q = z/z0.
-pub fn q(silo: &Silo, row: Row, depth: u64) -> Fraction {
-    whole(depth).over(&z0(silo, row))
+/// q, the load depth of z over z0.
+pub fn q(silo: &Silo, row: Row, z: u64) -> Fraction {
+    whole(silo.load_depth(z)).over(&z0(silo, row))
 }
 
 /// P, the factor before the bracket of p_hf, p_vf and p_wf, in Pa.
@@ -62,13 +62,13 @@ pub struct Filling {
     pub line: Real,
 }
 
-pub fn filling(silo: &Silo, depth: u64) -> Filling {
+pub fn filling(silo: &Silo, z: u64) -> Filling {
     let one = Real::exactly(whole(1));
-    let bracket = |row| one.minus(&exponential(&q(silo, row, depth)));
+    let bracket = |row| one.minus(&exponential(&q(silo, row, z)));
     let [horizontal, vertical, friction] = before_bracket(silo);
     let friction_bracket = bracket(FRICTION);
-    let z = Real::exactly(metres(whole(depth)));
-    let length = z.minus(&friction_bracket.times(&metres(z0(silo, FRICTION))));
+    let depth = Real::exactly(metres(whole(silo.load_depth(z))));
+    let length = depth.minus(&friction_bracket.times(&metres(z0(silo, FRICTION))));
     Filling {
         horizontal: bracket(HORIZONTAL).times(&horizontal),
         vertical: bracket(VERTICAL).times(&vertical),

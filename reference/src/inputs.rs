@@ -60,7 +60,8 @@ fn round(n: u64, low: u64) -> u64 {
     rounded.into_iter().find(|round| *round >= low.max(1)).unwrap_or(n)
 }
 
-/// The silo of document 01's cases: circle 5,000, γ 9,000, Ks 50, μ 40, C0 140, e 0, flat; five strakes of 2,000; depths 0 and 5,000.
+/// The silo of document 01's cases: circle 5,000, γ 9,000, Ks 50, μ 40, C0 140, e 0, flat; five strakes of 2,000; depths 0 and 5,000; level
+/// with the brim.
 pub fn sample() -> Silo {
     Silo {
         section: vec![5_000],
@@ -74,6 +75,7 @@ pub fn sample() -> Silo {
         run: 0,
         strakes: vec![2_000; 5],
         depths: vec![0, 5_000],
+        headroom: None,
     }
 }
 
@@ -85,15 +87,15 @@ pub fn silo(random: &mut Random) -> Silo {
             1 => Numbers::Round,
             _ => Numbers::Any,
         };
-        let mut silo = candidate(random);
+        let silo = candidate(random);
         random.numbers = Numbers::Any;
-        silo.depths = depths(random, &silo);
         if parse(&silo.sheet()) == Ok(silo.clone()) {
-            return silo;
+            return Silo { depths: depths(random, &silo), ..silo };
         }
     }
 }
 
+/// A silo with depth 0 alone.
 fn candidate(random: &mut Random) -> Silo {
     let shorter = match random.below(3) {
         0 => random.within(500, 3_000),
@@ -104,7 +106,7 @@ fn candidate(random: &mut Random) -> Silo {
     let section = random.pick(&[vec![shorter], vec![shorter, longer], vec![longer, shorter]]);
     let d_c = shorter;
     let (hopper_height, run) = hopper(random, d_c);
-    let strakes = wall(random, d_c, hopper_height);
+    let (strakes, headroom) = wall(random, d_c, hopper_height);
     let eccentricity = [0, random.within(0, d_c / 4), random.within(0, d_c / 4)];
     Silo {
         section,
@@ -117,7 +119,8 @@ fn candidate(random: &mut Random) -> Silo {
         hopper_height,
         run,
         strakes,
-        depths: vec![],
+        depths: vec![0],
+        headroom,
     }
 }
 
@@ -144,10 +147,31 @@ fn height(random: &mut Random, d_c: u64) -> u64 {
     }
 }
 
-/// Strakes that make up such an h over the hopper, where 1 to 24 of them can.
-fn wall(random: &mut Random, d_c: u64, hopper_height: u64) -> Vec<u64> {
-    let height = height(random, d_c);
-    let mut left = height.saturating_sub(hopper_height).clamp(200, 72_000);
+/// None half of the time; else 0, some millimetres, some metres, or as much as the highest wall has.
+fn headroom(random: &mut Random) -> Option<u64> {
+    match random.below(16) {
+        0..=7 => None,
+        8 => Some(0),
+        9..=10 => Some(random.within(1, 64)),
+        11..=14 => Some(random.within(1, 5_000)),
+        _ => Some(random.within(5_000, 71_999)),
+    }
+}
+
+/// Strakes that make up such an h over the hopper and under a headroom, where 1 to 24 of them can; the headroom itself, now and then all
+/// but a few millimetres of the wall.
+fn wall(random: &mut Random, d_c: u64, hopper_height: u64) -> (Vec<u64>, Option<u64>) {
+    let (height, headroom) = (height(random, d_c), headroom(random));
+    let filled = height.saturating_sub(hopper_height);
+    let foot = (filled + headroom.unwrap_or(0)).clamp(200, 72_000);
+    let nearly_all = random.one_in(16);
+    let headroom = headroom.map(|g| if nearly_all { foot - 1 - random.below(64) } else { g });
+    (strakes(random, foot), headroom)
+}
+
+/// Any number of strakes that can make up a wall, of any heights.
+fn strakes(random: &mut Random, foot: u64) -> Vec<u64> {
+    let mut left = foot;
     let count = random.within(left.div_ceil(3_000), (left / 200).min(24));
     let mut heights = Vec::new();
     for after in (0..count).rev() {
@@ -160,21 +184,28 @@ fn wall(random: &mut Random, d_c: u64, hopper_height: u64) -> Vec<u64> {
     heights
 }
 
-/// Depths with the ends, lower edges and neighbouring millimetres among them.
+/// The fewest equal strakes of a wall, to a millimetre.
+pub fn equal_strakes(foot: u64) -> Vec<u64> {
+    let count = foot.div_ceil(3_000);
+    (0..count).map(|i| (foot + i) / count).collect()
+}
+
+/// Depths with the ends, lower edges, the surface and neighbouring millimetres among them.
 pub fn depths(random: &mut Random, silo: &Silo) -> Vec<u64> {
     let foot = silo.foot();
     let count = if random.one_in(40) { 200 } else { 1 + random.below(9) };
     let mut depths = Vec::new();
     while depths.len() < count as usize {
-        let depth = match random.below(8) {
+        let depth = match random.below(9) {
             0 => random.below(foot.min(64)),
             1 => random.pick(&silo.edges()),
             2 => depths.last().map_or(0, |depth| depth + 1),
             3 => {
                 let load = random.below(4);
-                let some = (0..2_000).map(|_| 1 + random.below(foot));
+                let some = (0..2_000).map(|_| silo.g() + 1 + random.below(silo.load_depth(foot)));
                 just_above_whole(silo, load, some)
             }
+            4 => (silo.g() + random.below(3)).saturating_sub(1),
             _ => random.within(0, foot),
         };
         depths.push(depth.min(foot));
@@ -197,7 +228,7 @@ fn just_above_whole(silo: &Silo, load: u64, depths: impl Iterator<Item = u64>) -
     };
     let z0 = radius / (ratio * friction);
     let value = |depth: u64| {
-        let z = depth as f64 / 1_000.0;
+        let z = silo.load_depth(depth) as f64 / 1_000.0;
         let bracket = 1.0 - (-z / z0).exp();
         silo.weight as f64
             * match load {
@@ -221,31 +252,49 @@ pub fn heavy(random: &mut Random) -> Silo {
         friction: random.within(10, 14),
         factor: random.within(100, 200),
         strakes: vec![3_000; 24],
+        headroom: headroom(random),
         ..sample()
     };
-    silo.depths = (0..4).map(|load| just_above_whole(&silo, load, 1..=silo.foot())).collect();
+    let below = silo.g() + 1..=silo.foot();
+    silo.depths = (0..4).map(|load| just_above_whole(&silo, load, below.clone())).collect();
     silo.depths.sort();
     silo.depths.dedup();
     silo
 }
 
-/// Another accepted silo with the same section and product, another h, and depths beside the first one's.
+/// Another accepted silo with the same section and product, another h and headroom, and load depths beside the first one's.
 pub fn sibling(random: &mut Random, silo: &Silo) -> Silo {
     loop {
-        let mut sibling = silo.clone();
+        let mut sibling = Silo { depths: vec![0], ..silo.clone() };
         sibling.e_o = random.within(0, silo.d_c() / 4);
         (sibling.hopper_height, sibling.run) = hopper(random, silo.d_c());
-        sibling.strakes = wall(random, silo.d_c(), sibling.hopper_height);
-        let foot = sibling.foot();
-        sibling.depths = depths(random, &sibling);
-        sibling.depths.extend(silo.depths.iter().map(|depth| depth + random.below(3)));
-        sibling.depths.retain(|depth| *depth <= foot);
+        (sibling.strakes, sibling.headroom) = wall(random, silo.d_c(), sibling.hopper_height);
+        if parse(&sibling.sheet()).is_err() {
+            continue;
+        }
+        let (foot, g) = (sibling.foot(), sibling.g());
+        let beside = silo.depths.iter().map(|z| silo.load_depth(*z) + g + random.below(3));
+        let beside: Vec<u64> = beside.filter(|z| *z <= foot).collect();
+        sibling.depths = [depths(random, &sibling), beside].concat();
         sibling.depths.sort();
         sibling.depths.dedup();
         sibling.depths.truncate(200);
-        if parse(&sibling.sheet()).is_ok() {
-            return sibling;
-        }
+        return sibling;
+    }
+}
+
+/// A silo of the same section and product, level with its brim, that lists the load depths of another: as much wall as grain lies against
+/// there, 200 mm at least, over a flat floor.
+pub fn level(silo: &Silo) -> Silo {
+    let mut depths: Vec<u64> = silo.depths.iter().map(|z| silo.load_depth(*z)).collect();
+    depths.dedup();
+    Silo {
+        hopper_height: 0,
+        run: 0,
+        strakes: equal_strakes(silo.load_depth(silo.foot()).max(200)),
+        depths,
+        headroom: None,
+        ..silo.clone()
     }
 }
 
@@ -260,8 +309,10 @@ pub fn strake_lists(random: &mut Random) -> [Vec<u32>; 2] {
 /// A sheet with something wrong, or with a number at or just past a limit.
 pub fn damaged(random: &mut Random, silo: &Silo) -> Vec<u8> {
     let mut bytes = silo.sheet();
-    let at = random.below(bytes.len() as u64) as usize;
-    match random.below(10) {
+    // One time in four among the last bytes, where the headroom's record is.
+    let from = if random.one_in(4) { bytes.len() - 12 } else { 0 };
+    let at = from + random.below((bytes.len() - from) as u64) as usize;
+    match random.below(11) {
         0 => bytes[at] ^= 1 << random.below(8),
         1 => bytes[at] = random.next() as u8,
         2 => bytes.truncate(at),
@@ -275,12 +326,18 @@ pub fn damaged(random: &mut Random, silo: &Silo) -> Vec<u8> {
             let length = random.within(0, 1_100);
             bytes = (0..length).map(|_| random.pick(&[0, 1, 2, 3, 4, 8, 10])).collect();
         }
+        7 => {
+            let noise = [random.pick(&[4, 4, 0, 5, 8]), 0, random.pick(&[8, 8, 7, 9]), 0];
+            let length = random.below(14) as usize;
+            bytes = Silo { headroom: None, ..silo.clone() }.sheet();
+            bytes.extend(noise.into_iter().chain([random.next() as u8; 9]).take(length));
+        }
         _ => bytes = past_a_limit(random, silo.clone()).sheet(),
     }
     bytes
 }
 
-/// Moves one or two numbers to a limit of document 01, of its rules or of the discharge factors, or one past it.
+/// Moves one or two numbers to a limit, of the rules, of the discharge factors or of the load depth, or to either side of it.
 fn past_a_limit(random: &mut Random, mut silo: Silo) -> Silo {
     for _ in 0..=random.below(2) {
         let near = |random: &mut Random, limits: &[u64]| {
@@ -289,7 +346,8 @@ fn past_a_limit(random: &mut Random, mut silo: Silo) -> Silo {
         let d_c = silo.d_c();
         let strake = random.below(silo.strakes.len() as u64) as usize;
         let depth = random.below(silo.depths.len() as u64) as usize;
-        match random.below(14) {
+        let (foot, over) = (silo.foot(), silo.foot() + silo.hopper_height);
+        match random.below(17) {
             0 => silo.section[0] = near(random, &[500, 50_000, 0, u32::MAX.into()]),
             1 => silo.weight = near(random, &[1_000, 30_000, 0, u32::MAX.into()]),
             2 => silo.ratio = near(random, &[20, 100, 0]),
@@ -300,10 +358,17 @@ fn past_a_limit(random: &mut Random, mut silo: Silo) -> Silo {
             7 => silo.run = near(random, &[0, d_c / 2, u32::MAX.into()]),
             8 => silo.hopper_height = near(random, &[0, 25_000, 363_971 * silo.run / 1_000_000]),
             9 => silo.strakes[strake] = near(random, &[200, 3_000, 0]),
-            10 => silo.depths[depth] = near(random, &[silo.foot(), 0]),
+            10 => silo.depths[depth] = near(random, &[foot, 0]),
             11 => silo.depths.insert(depth, silo.depths[depth]),
             12 => stretch(&mut silo, near(random, &[10 * d_c])),
-            _ => stretch(&mut silo, near(random, &[d_c, 3 * d_c / 2])),
+            13 => stretch(&mut silo, near(random, &[d_c, 3 * d_c / 2])),
+            14 => silo.headroom = Some(near(random, &[foot, foot, 0, 65_536, u32::MAX.into()])),
+            15 => silo.headroom = Some(near(random, &[silo.depths[depth]])),
+            _ => {
+                let heights = [10 * d_c, d_c, 3 * d_c / 2];
+                let limits = heights.map(|height| over.saturating_sub(height));
+                silo.headroom = Some(near(random, &limits));
+            }
         }
     }
     silo
@@ -311,8 +376,8 @@ fn past_a_limit(random: &mut Random, mut silo: Silo) -> Silo {
 
 /// Makes h that height with equal strakes, where they can.
 fn stretch(silo: &mut Silo, height: u64) {
-    let foot = height.saturating_sub(silo.hopper_height).clamp(200, 72_000);
-    let count = foot.div_ceil(3_000);
-    silo.strakes = (0..count).map(|i| (foot + i) / count).collect();
+    let filled = height.saturating_sub(silo.hopper_height);
+    let foot = (filled + silo.g()).clamp(200, 72_000);
+    silo.strakes = equal_strakes(foot);
     silo.depths = vec![0, foot];
 }

@@ -1,7 +1,7 @@
-//! Every limit of document 01, and of C-11 of document 02: sheets with the value at it, below it and above it, each with the number due;
-//! 0 is acceptance.
+//! Every limit of document 01, and of C-11 and C-13 of document 02: sheets with the value at it, below it and above it, each with the
+//! number due; 0 is acceptance.
 
-use crate::inputs::sample;
+use crate::inputs::{equal_strakes, sample};
 use crate::sheet::{record, Silo};
 
 /// A sheet and the number of its refusal, or 0.
@@ -62,6 +62,14 @@ const NUMBERS: &[(Change, &[(u64, u64)])] = &[
         |silo, n| silo.depths = vec![4_999, n, 5_001],
         &[(0, 11), (4_998, 11), (4_999, 11), (5_000, 0), (5_001, 11), (5_002, 11), (MAX, 11)],
     ),
+    (
+        |silo, n| (silo.depths, silo.headroom) = (vec![0, n], Some(2_000)),
+        &[(1, 0), (1_999, 0), (2_000, 0), (2_001, 0), (10_000, 0), (10_001, 11), (12_000, 11)],
+    ),
+    (
+        |silo, n| (silo.depths, silo.headroom) = (vec![4_999, 5_000, 5_001], Some(n)),
+        &[(4_998, 0), (4_999, 0), (5_000, 0), (5_001, 0), (5_002, 0)],
+    ),
 ];
 
 /// d_c is 5,000; four times 2^30 is 0 in 32 bits.
@@ -69,11 +77,20 @@ const ECCENTRICITIES: &[(u64, u64)] =
     &[(0, 0), (1_249, 0), (1_250, 0), (1_251, 8), (1 << 30, 8), ((1 << 30) + 1, 8), (MAX, 8)];
 
 pub fn sheets() -> Vec<Due> {
-    let values = [numbers(), sides(), eccentricities(), slopes(), strakes(), depths(), heights()];
+    let values = [
+        numbers(),
+        sides(),
+        eccentricities(),
+        slopes(),
+        strakes(),
+        depths(),
+        headrooms(),
+        heights(),
+    ];
     let accepted = factors().into_iter().chain(lowest()).map(|silo| (silo, 0));
     let silos = values.concat().into_iter().chain(whole_loads()).chain(accepted);
     let sheets = silos.map(|(silo, due)| (silo.sheet(), due));
-    sheets.chain(cut_or_extended()).chain(kinds()).chain(lengths()).collect()
+    [cut_or_extended(), kinds(), lengths()].concat().into_iter().chain(sheets).collect()
 }
 
 fn numbers() -> Vec<(Silo, u64)> {
@@ -91,15 +108,24 @@ fn numbers() -> Vec<(Silo, u64)> {
 /// The sample with that section, and a wall and hopper of that height in all, the wall of equal strakes.
 pub fn of_height(section: &[u64], height: u64, hopper: (u64, u64)) -> Silo {
     let foot = height.saturating_sub(hopper.0).clamp(200, 72_000);
-    let count = foot.div_ceil(3_000);
     Silo {
         section: section.to_vec(),
         hopper_height: hopper.0,
         run: hopper.1,
-        strakes: (0..count).map(|i| (foot + i) / count).collect(),
+        strakes: equal_strakes(foot),
         depths: vec![0, foot / 2, foot],
         ..sample()
     }
+}
+
+/// The same with that h under a headroom, the surface and the millimetre on either side listed; where no wall is so high, with less.
+pub fn under_headroom(section: &[u64], height: u64, hopper: (u64, u64), g: u64) -> Silo {
+    let silo = of_height(section, height + g, hopper);
+    let mut depths = [silo.depths.clone(), vec![g.saturating_sub(1), g, g + 1]].concat();
+    depths.retain(|depth| *depth <= silo.foot());
+    depths.sort();
+    depths.dedup();
+    Silo { depths, headroom: Some(g), ..silo }
 }
 
 const FLAT: (u64, u64) = (0, 0);
@@ -190,6 +216,23 @@ fn depths() -> Vec<(Silo, u64)> {
     silos
 }
 
+/// Rule 17: walls from the lowest to the highest, over a flat floor and a hopper.
+fn headrooms() -> Vec<(Silo, u64)> {
+    let mut silos = Vec::new();
+    for foot in [200, 3_000, 10_000, 72_000] {
+        for hopper in [FLAT, (1_000, 500)] {
+            let wall = of_height(&[9_000], foot + hopper.0, hopper);
+            let below = [0, 1, 199, foot / 2, foot - 2, foot - 1, 65_535, 65_536, 65_537];
+            let above = [foot, foot + 1, 2 * foot, foot + 65_536, 1 << 31, MAX - 1, MAX];
+            for g in below.into_iter().chain(above) {
+                let due = if g < foot { 0 } else { 17 };
+                silos.push((Silo { headroom: Some(g), ..wall.clone() }, due));
+            }
+        }
+    }
+    silos
+}
+
 /// Odd and even d_c that a wall can be ten times as high as.
 const WIDTHS: [u64; 7] = [500, 501, 1_999, 2_000, 5_000, 5_001, 7_199];
 
@@ -199,20 +242,38 @@ fn sections(d_c: u64) -> [Vec<u64>; 3] {
     [vec![d_c], vec![d_c, longer], vec![longer, d_c]]
 }
 
-/// Rule 12, for odd and even d_c, the shorter side first and second, with and without a hopper; and the widest that a wall of 24 strakes
-/// makes too high, over a hopper.
+/// Headrooms that decide a limit of h.
+const HEADROOMS: [u64; 3] = [1, 300, 20_000];
+
+/// Silos of that h, level with the brim and under each headroom, where 24 strakes are enough.
+fn each_headroom(section: &[u64], height: u64, hopper: (u64, u64)) -> Vec<Silo> {
+    let mut silos = vec![of_height(section, height, hopper)];
+    silos.extend(HEADROOMS.map(|g| under_headroom(section, height, hopper, g)));
+    silos.retain(|silo| silo.height() == height);
+    silos
+}
+
+/// Rule 12, for odd and even d_c, the shorter side first and second, with and without a hopper and a headroom; and the widest that a wall
+/// of 24 strakes makes too high, over a hopper.
 fn heights() -> Vec<(Silo, u64)> {
-    let about = |section: &[u64], d_c: u64, hopper: (u64, u64)| {
-        let heights = [(10 * d_c - 1, 0), (10 * d_c, 12), (10 * d_c + 1, 12)];
-        heights.map(|(height, due)| (of_height(section, height, hopper), due))
-    };
-    let mut silos = about(&[9_699], 9_699, (24_995, 1_000)).to_vec();
+    let mut silos = about_ten(&[9_699], 9_699, (24_995, 1_000));
     for d_c in WIDTHS {
         for section in sections(d_c) {
-            silos.extend([FLAT, (200, 50)].iter().flat_map(|hopper| about(&section, d_c, *hopper)));
+            for hopper in [FLAT, (200, 50)] {
+                silos.extend(about_ten(&section, d_c, hopper));
+            }
         }
     }
     silos
+}
+
+/// h at 10·d_c, and on either side.
+fn about_ten(section: &[u64], d_c: u64, hopper: (u64, u64)) -> Vec<(Silo, u64)> {
+    let heights = [(10 * d_c - 1, 0), (10 * d_c, 12), (10 * d_c + 1, 12)];
+    let silos = heights.map(|(height, due)| {
+        each_headroom(section, height, hopper).into_iter().map(move |silo| (silo, due))
+    });
+    silos.into_iter().flatten().collect()
 }
 
 /// Limits of the discharge factors, which no rule judges: h = d_c and 2h = 3·d_c, or next to them, for odd and even d_c up to the widest.
@@ -227,18 +288,21 @@ fn factors() -> Vec<Silo> {
     silos
 }
 
-/// Bins of that width and height over a flat floor, a low hopper, and one that makes a wall of d_c slender; C0 blank, at its ends and as in
-/// the sample; e at its limit.
+/// Bins of that width and height over a flat floor, a low hopper, and one that makes a wall of d_c slender; level with the brim with C0
+/// blank, at its ends and as in the sample, and under headrooms; e at its limit.
 fn bins(d_c: u64, height: u64) -> Vec<Silo> {
     let mut silos = Vec::new();
     for section in sections(d_c) {
         for hopper in [FLAT, (200, 50), (d_c / 2, d_c / 4)] {
-            let silo = Silo { e_o: d_c / 4, ..of_height(&section, height, hopper) };
-            silos.extend([0, 100, 140, 200].map(|factor| Silo { factor, ..silo.clone() }));
+            for silo in each_headroom(&section, height, hopper) {
+                let silo = Silo { e_o: d_c / 4, ..silo };
+                if silo.headroom.is_none() {
+                    silos.extend([0, 100, 200].map(|factor| Silo { factor, ..silo.clone() }));
+                }
+                silos.push(silo);
+            }
         }
     }
-    // 24 strakes alone do not make the widest slender.
-    silos.retain(|silo| silo.height() == height);
     silos
 }
 
@@ -266,28 +330,40 @@ fn whole_loads() -> Vec<(Silo, u64)> {
     (1..=30).flat_map(|weight| hoppers.map(|size| silo(weight, size))).collect()
 }
 
-/// The sample with as many strakes and depths as there may be.
+/// The sample with a headroom, and as many strakes and depths as there may be.
 fn longest() -> Silo {
-    Silo { strakes: vec![2_000; 24], depths: (0..200).collect(), ..sample() }
+    Silo { strakes: vec![2_000; 24], depths: (0..200).collect(), headroom: Some(100), ..sample() }
 }
 
-/// Rules 1, 2 and 5: a short sheet and the longest there is, cut short at every byte, whole, and longer.
+/// Rules 1, 2 and 5: a short sheet and the longest there is, of seven records, cut short at every byte, whole, and longer; the same of six
+/// records and longer. The sixth record may be the last.
 fn cut_or_extended() -> Vec<Due> {
-    let sheets = [sample(), longest()].map(|silo| Silo { section: vec![5_000, 6_000], ..silo });
+    let short = Silo { headroom: Some(1_000), ..sample() };
     let zeros = [(4, 3), (1_024, 3), (1_025, 1)].map(|(length, due)| (vec![0; length], due));
-    sheets.iter().flat_map(|silo| of_every_length(&silo.sheet())).chain(zeros).collect()
+    let mut sheets = zeros.to_vec();
+    for silo in [short, longest()] {
+        let seven = Silo { section: vec![5_000, 6_000], ..silo };
+        let six = Silo { headroom: None, ..seven.clone() }.sheet();
+        let seven = seven.sheet();
+        let whole = [six.len(), seven.len()];
+        let due = |length: usize| if whole.contains(&length) { 0 } else { 2 };
+        sheets.extend((0..=seven.len()).map(|length| (seven[..length].to_vec(), due(length))));
+        sheets.extend(extended(&seven, |_| 5));
+        sheets.extend(extended(&six, |extra| if extra < 4 { 2 } else { 3 }));
+    }
+    sheets
 }
 
-fn of_every_length(whole: &[u8]) -> Vec<Due> {
-    let cut = (0..whole.len()).map(|length| (whole[..length].to_vec(), 2));
-    let longer = [(1, 5), (2, 5), (4, 5)].map(|(extra, due)| (whole.len() + extra, due));
-    let lengths = longer.into_iter().chain([(1_023, 5), (1_024, 5), (1_025, 1), (65_536, 1)]);
-    let extended = lengths.map(|(length, due)| {
+/// A sheet with bytes of 0 behind it, and what is due to so many; too long a sheet.
+fn extended(whole: &[u8], due: impl Fn(usize) -> u64) -> Vec<Due> {
+    let with = |length: usize, due: u64| {
         let mut sheet = whole.to_vec();
         sheet.resize(length, 0);
         (sheet, due)
-    });
-    cut.chain(extended).chain([(whole.to_vec(), 0)]).collect()
+    };
+    let extra = (1..=12).chain([1_023 - whole.len(), 1_024 - whole.len()]);
+    let left_over = extra.map(|extra| with(whole.len() + extra, due(extra)));
+    left_over.chain([with(1_025, 1), with(65_536, 1)]).collect()
 }
 
 /// A sheet's records, kind and payload.
@@ -310,11 +386,12 @@ fn joined(records: &[(u16, Vec<u8>)]) -> Vec<u8> {
 /// other way round, has a wrong length.
 fn kinds() -> Vec<Due> {
     let mut sheets = Vec::new();
-    for silo in [sample(), Silo { section: vec![5_000, 6_000], ..sample() }] {
+    let rectangle = Silo { section: vec![5_000, 6_000], headroom: Some(1_000), ..sample() };
+    for silo in [sample(), rectangle] {
         let whole = records(&silo.sheet());
         for place in 0..whole.len() {
             let right = whole[place].0;
-            for kind in (0..9).chain([255, 256 + right, 0x8000 + right, 65_535]) {
+            for kind in (0..10).chain([255, 256 + right, 0x8000 + right, 65_535]) {
                 let mut changed = whole.clone();
                 changed[place].0 = kind;
                 let due = match () {
@@ -332,8 +409,8 @@ fn kinds() -> Vec<Due> {
 /// Rule 4: payloads of each kind, of every length round those allowed.
 fn lengths() -> Vec<Due> {
     // Bytes of a number or a payload, and how many of them at most.
-    let allowed = [(4, 1), (10, 1), (8, 1), (8, 1), (2, 24), (4, 200)];
-    let mut sheets = Vec::new();
+    let allowed = [(4, 1), (10, 1), (8, 1), (8, 1), (2, 24), (4, 200), (4, 1)];
+    let mut sheets = stated_lengths();
     for length in (0..60).chain(790..810) {
         for (place, (width, most)) in allowed.into_iter().enumerate() {
             let fits = length % width == 0 && (1..=most).contains(&(length / width));
@@ -343,9 +420,27 @@ fn lengths() -> Vec<Due> {
     sheets
 }
 
-/// The sample with depth 0 alone, and one payload from a sheet of the longest ones, cut to a length or extended.
+/// The same of the headroom, stated alone: 4 and 8 bytes are there.
+fn stated_lengths() -> Vec<Due> {
+    let six = sample().sheet();
+    let mut sheets = Vec::new();
+    for length in (0..=20).chain([255, 256, 260, 1_024, 0x8004, 65_535]) {
+        for present in [4, 8] {
+            let due = match (length, present) {
+                (4, 4) => 0,
+                (4, _) => 5,
+                _ => 4,
+            };
+            let header = [u16::to_le_bytes(length), 8u16.to_le_bytes()].concat();
+            sheets.push(([&six[..], &header, &vec![0; present]].concat(), due));
+        }
+    }
+    sheets
+}
+
+/// The sample with depth 0 alone and a headroom, and one payload from a sheet of the longest ones, cut to a length or extended.
 fn resized(place: usize, length: usize, due: u64) -> Due {
-    let mut changed = records(&Silo { depths: vec![0], ..sample() }.sheet());
+    let mut changed = records(&Silo { depths: vec![0], headroom: Some(1_000), ..sample() }.sheet());
     changed[place] = records(&longest().sheet()).swap_remove(place);
     changed[place].1.resize(length, 0);
     (joined(&changed), due)

@@ -1,4 +1,4 @@
-//! Sheets that break two rules at once: the first one in document 01's order is the refusal.
+//! Sheets that break two rules at once: the first one in the order of document 01, with 17 of C-13 between 11 and 12, is the refusal.
 
 use crate::inputs::sample;
 use crate::limits::Due;
@@ -7,15 +7,21 @@ use crate::sheet::Silo;
 type Break = fn(&mut Silo);
 type Damage = fn(&mut Vec<u8>, usize);
 
-/// A way to break each rule from 6 to 12 that leaves the others as they are, and can be joined with any.
-const VALUES: [(u64, Break); 7] = [
+/// Ways to break each rule from 6 to 12, in their order, that leave the others as they are and can be joined with any. The hopper alone is
+/// too high for 12, whatever the headroom.
+const VALUES: [(u64, Break); 9] = [
     (6, |silo| silo.section.push(50_001)),
     (7, |silo| silo.weight = 999),
     (8, |silo| silo.e_o = u32::MAX.into()),
-    (9, |silo| silo.run = 1),
-    (10, |silo| silo.strakes[4] = 3_001),
+    (9, |silo| silo.run = u32::MAX.into()),
+    (10, |silo| silo.strakes[4] = 199),
     (11, |silo| silo.depths = vec![5_000, 5_000]),
-    (12, |silo| silo.section[0] = 900),
+    (17, |silo| silo.headroom = Some(silo.foot())),
+    (17, |silo| silo.headroom = Some(u32::MAX.into())),
+    (12, |silo| {
+        silo.section[0] = 900;
+        (silo.hopper_height, silo.run) = (9_000, 400);
+    }),
 ];
 
 /// Damage to the bytes of one record, from its first byte on, and the rule that it breaks.
@@ -26,13 +32,20 @@ const RECORD: [(u64, Damage); 4] = [
     (4, |sheet, at| sheet[at] += 1),
 ];
 
-/// Silos of 9 m under several widths: slender, at h = 1.5·d_c, squat, at h = d_c and below it. No rule's place is taken by the shape.
-fn silos() -> [Silo; 5] {
-    [5_000, 6_000, 8_000, 9_000, 20_000].map(|width| Silo {
-        section: vec![width],
-        strakes: vec![1_800; 5],
-        ..sample()
-    })
+/// Silos of 9 m under several widths: slender, at h = 1.5·d_c, squat, at h = d_c and below it; level with the brim and under a headroom. No
+/// rule's place is taken by the shape.
+fn silos() -> Vec<Silo> {
+    let walls = [(None, 1_800), (Some(0), 1_800), (Some(1_000), 2_000)];
+    let of_width = |width: u64| {
+        walls.map(|(headroom, strake)| Silo {
+            section: vec![width],
+            strakes: vec![strake; 5],
+            depths: vec![0, 1_000, 5_000],
+            headroom,
+            ..sample()
+        })
+    };
+    [5_000, 6_000, 8_000, 9_000, 20_000].into_iter().flat_map(of_width).collect()
 }
 
 pub fn sheets() -> Vec<Due> {
@@ -40,7 +53,12 @@ pub fn sheets() -> Vec<Due> {
         let unbroken = vec![(silo.sheet(), 0)];
         [unbroken, two_values(silo), record_and_value(silo)].concat()
     };
-    [silos().iter().flat_map(of_silo).collect(), two_records(), one_record()].concat()
+    let of_sheet = |headroom| {
+        let whole = Silo { headroom, ..sample() }.sheet();
+        [two_records(&whole), one_record(&whole)].concat()
+    };
+    let sheets = [None, Some(1_000)].into_iter().flat_map(of_sheet);
+    silos().iter().flat_map(of_silo).chain(sheets).collect()
 }
 
 /// Each rule alone, then each with each later one.
@@ -61,15 +79,16 @@ fn two_values(whole: &Silo) -> Vec<Due> {
 
 /// Where each record of a sheet begins.
 fn starts(sheet: &[u8]) -> Vec<usize> {
-    let mut starts = vec![0];
-    for _ in 0..5 {
-        let at = starts[starts.len() - 1];
-        starts.push(at + 4 + usize::from(u16::from_le_bytes([sheet[at], sheet[at + 1]])));
+    let mut starts = Vec::new();
+    let mut at = 0;
+    while at < sheet.len() {
+        starts.push(at);
+        at += 4 + usize::from(u16::from_le_bytes([sheet[at], sheet[at + 1]]));
     }
     starts
 }
 
-/// Rules 1 to 5 before each of 6 to 12.
+/// Rules 1 to 5 before each of 6 to 12. A byte behind the sixth record is a header cut short, behind the seventh it is left over.
 fn record_and_value(whole: &Silo) -> Vec<Due> {
     let mut sheets = Vec::new();
     for (_, break_value) in VALUES {
@@ -83,29 +102,29 @@ fn record_and_value(whole: &Silo) -> Vec<Due> {
                 sheets.push((sheet, rule));
             }
         }
-        sheets.push(([&sheet[..], &[0]].concat(), 5));
+        let due = if silo.headroom.is_some() { 5 } else { 2 };
+        sheets.push(([&sheet[..], &[0]].concat(), due));
         sheets.push(([&sheet[..], &[0; 1_024]].concat(), 1));
     }
     sheets
 }
 
-/// Two records damaged, the later one first so that the places hold: the earlier one is the refusal. And too long a sheet, or bytes
-/// left over, with one record damaged.
-fn two_records() -> Vec<Due> {
-    let whole = sample().sheet();
-    let starts = starts(&whole);
+/// Two records damaged, the later one first so that the places hold: the earlier one is the refusal. And too long a sheet, or a byte behind
+/// the last record, with one record damaged.
+fn two_records(whole: &[u8]) -> Vec<Due> {
+    let starts = starts(whole);
     let mut sheets = Vec::new();
     for (i, at) in starts.iter().enumerate() {
         for (rule, damage) in RECORD {
             for later in &starts[i + 1..] {
                 for (_, damage_later) in RECORD {
-                    let mut sheet = whole.clone();
+                    let mut sheet = whole.to_vec();
                     damage_later(&mut sheet, *later);
                     damage(&mut sheet, *at);
                     sheets.push((sheet, rule));
                 }
             }
-            let mut sheet = [&whole[..], &[0]].concat();
+            let mut sheet = [whole, &[0]].concat();
             damage(&mut sheet, *at);
             sheets.push((sheet.clone(), rule));
             sheet.resize(1_025, 0);
@@ -116,12 +135,11 @@ fn two_records() -> Vec<Due> {
 }
 
 /// In one record: header before kind, kind before length, length before payload.
-fn one_record() -> Vec<Due> {
-    let whole = sample().sheet();
+fn one_record(whole: &[u8]) -> Vec<Due> {
     let mut sheets = Vec::new();
-    for at in starts(&whole) {
+    for at in starts(whole) {
         let damaged = |kind: u8, longer: u8, length: usize| {
-            let mut sheet = whole.clone();
+            let mut sheet = whole.to_vec();
             sheet[at + 2] = kind;
             sheet[at] += longer;
             sheet.truncate(at + length);

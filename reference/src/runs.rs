@@ -30,11 +30,12 @@ pub fn accepted(comparison: &mut Comparison, random: &mut Random, count: u64) ->
     })
 }
 
-/// Random silos, each beside another one with its section and product.
+/// Random silos, each beside another one with its section and product, and beside one that is level with its brim.
 pub fn pairs(comparison: &mut Comparison, random: &mut Random, count: u64) -> Outcome {
     (0..count).try_for_each(|_| {
         let silo = inputs::silo(random);
-        comparison.pair(&silo, &inputs::sibling(random, &silo))
+        comparison.pair(&silo, &inputs::sibling(random, &silo))?;
+        comparison.level(&silo, &inputs::level(&silo))
     })
 }
 

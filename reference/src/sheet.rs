@@ -1,4 +1,5 @@
-//! A sheet and the order in which it is refused, as document 01 writes them down, without 13, which C-11 of document 02 retires.
+//! A sheet and the order in which it is refused, as document 01 writes them down, without 13, which C-11 of document 02 retires, and with
+//! the headroom and 17 of C-13.
 
 /// What a sheet says; lengths in mm, weight in N/m³, ratio, friction and factor in hundredths.
 #[derive(Clone, Debug, PartialEq, Eq)]
@@ -16,6 +17,8 @@ pub struct Silo {
     pub run: u64,
     pub strakes: Vec<u64>,
     pub depths: Vec<u64>,
+    /// As written: a sheet of six records has none, which stands for 0.
+    pub headroom: Option<u64>,
 }
 
 impl Silo {
@@ -36,9 +39,19 @@ impl Silo {
         self.strakes.iter().sum()
     }
 
-    /// h = V + H.
+    /// g, from the brim down to the equivalent surface.
+    pub fn g(&self) -> u64 {
+        self.headroom.unwrap_or(0)
+    }
+
+    /// The larger of 0 and z - g, where the loads at z are taken.
+    pub fn load_depth(&self, z: u64) -> u64 {
+        z.saturating_sub(self.g())
+    }
+
+    /// h = V - g + H, where g is below V.
     pub fn height(&self) -> u64 {
-        self.foot() + self.hopper_height
+        self.load_depth(self.foot()) + self.hopper_height
     }
 
     pub fn edges(&self) -> Vec<u64> {
@@ -51,6 +64,7 @@ impl Silo {
 
     pub fn sheet(&self) -> Vec<u8> {
         let product = [self.ratio, self.friction, self.factor];
+        let headroom = self.headroom.map(|g| record(8, bytes(4, &[g])));
         [
             record(self.section.len() as u16, bytes(4, &self.section)),
             record(3, [bytes(4, &[self.weight]), bytes(2, &product)].concat()),
@@ -58,6 +72,7 @@ impl Silo {
             record(5, bytes(4, &[self.hopper_height, self.run])),
             record(6, bytes(2, &self.strakes)),
             record(7, bytes(4, &self.depths)),
+            headroom.unwrap_or_default(),
         ]
         .concat()
     }
@@ -93,19 +108,23 @@ pub fn parse(sheet: &[u8]) -> Result<Silo, u64> {
     }
 }
 
-/// What a sheet says, before any value is judged. Refusals 2 to 5: header, kind, length, payload present, record by record; then nothing left over.
+/// What a sheet says, before any value is judged. Refusals 2 to 5: header, kind, length, payload present, record by record; then nothing
+/// left over. The sixth record may be the last.
 pub fn records(sheet: &[u8]) -> Result<Silo, u64> {
-    let due: [&[u64]; 6] = [&[1, 2], &[3], &[4], &[5], &[6], &[7]];
+    let due: [&[u64]; 7] = [&[1, 2], &[3], &[4], &[5], &[6], &[7], &[8]];
     let mut rest = sheet;
     let mut payloads = Vec::new();
     for kinds in due {
+        if payloads.len() == 6 && rest.is_empty() {
+            break;
+        }
         let header = rest.get(..4).ok_or(2u64)?;
         let (length, kind) = (number(&header[..2]) as usize, number(&header[2..]));
         if !kinds.contains(&kind) {
             return Err(3);
         }
         let allowed = match kind {
-            1 => length == 4,
+            1 | 8 => length == 4,
             2 | 4 | 5 => length == 8,
             3 => length == 10,
             6 => length % 2 == 0 && (1..=24).contains(&(length / 2)),
@@ -133,10 +152,11 @@ pub fn records(sheet: &[u8]) -> Result<Silo, u64> {
         run: number(&payloads[3][4..]),
         strakes: numbers(payloads[4], 2),
         depths: numbers(payloads[5], 4),
+        headroom: payloads.get(6).map(|payload| number(payload)),
     })
 }
 
-/// Refusals 6 to 12, or 0.
+/// Refusals 6 to 11, 17 and 12 in this order, or 0.
 fn judge(silo: &Silo) -> u64 {
     let d_c = silo.d_c();
     let (hopper, run) = (silo.hopper_height, silo.run);
@@ -158,6 +178,7 @@ fn judge(silo: &Silo) -> u64 {
             silo.depths.iter().any(|depth| *depth > silo.foot())
                 || silo.depths.windows(2).any(|pair| pair[1] <= pair[0]),
         ),
+        (17, silo.g() >= silo.foot()),
         (12, silo.height() >= 10 * d_c),
     ];
     wrong.iter().find(|(_, holds)| *holds).map_or(0, |(refusal, _)| *refusal)

@@ -1,4 +1,5 @@
-//! Accepted sheets over the whole range, with ends of every range and neighbouring millimetres among them.
+//! Accepted sheets over the whole range, with ends of every range and neighbouring millimetres among them; about half of them have a
+//! headroom.
 
 use reference::compare::Comparison;
 use reference::inputs::Random;

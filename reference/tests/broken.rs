@@ -1,7 +1,8 @@
 //! Broken stand-ins for the library: the comparison has to find each of them in what the other tests compare.
 //!
 //! Each calls the library and changes what it leaves or answers: the worthless versions of document 01, its traps, single numbers and
-//! limits one off, other discharge factors, rules in another order, and memory that is written to where it must not be.
+//! limits one off, other discharge factors, a headroom that is read otherwise, rules in another order, and memory that is written to where
+//! it must not be.
 
 use reference::calls::{Library, Outcome, UNTOUCHED};
 use reference::compare::Comparison;
@@ -91,10 +92,10 @@ fn filled(sheet: &[u8], list: &mut [u32], change: impl Fn(&Silo, &mut [u32])) ->
     answer
 }
 
-/// Each row below the brim changed.
+/// Each row below the surface changed.
 fn each_row(silo: &Silo, list: &mut [u32], change: impl Fn(&mut [u32])) {
     let rows = list[..8 * silo.depths.len()].chunks_mut(8);
-    rows.filter(|row| row[0] > 0).for_each(change);
+    rows.filter(|row| silo.load_depth(row[0].into()) > 0).for_each(change);
 }
 
 /// A number times a factor, rounded up.
@@ -133,12 +134,17 @@ fn put_bracket(silo: &Silo, list: &mut [u32], bracket: fn(&Fraction) -> Fraction
     put_strakes(silo, list, &Discharge::of(silo).c_h, at_edges);
 }
 
+/// The library's list for a silo, of zeros where it is refused.
+fn list_of(silo: &Silo) -> Vec<u32> {
+    let mut list = vec![0; silo.answers_length()];
+    loads(&silo.sheet(), &mut list);
+    list
+}
+
 /// The library's p_hf at the lower edges, which a sheet of their depths lists.
 fn edge_pressures(silo: &Silo) -> Vec<u32> {
-    let at_edges = Silo { depths: silo.edges(), ..silo.clone() };
-    let mut list = vec![0; at_edges.answers_length()];
-    loads(&at_edges.sheet(), &mut list);
-    list.chunks(8).take(at_edges.depths.len()).map(|row| row[1]).collect()
+    let list = list_of(&Silo { depths: silo.edges(), ..silo.clone() });
+    list.chunks(8).take(silo.strakes.len()).map(|row| row[1]).collect()
 }
 
 fn is_squat(silo: &Silo) -> bool {
@@ -170,6 +176,36 @@ fn in_hundredths(silo: &Silo, rounding: fn(Fraction) -> u64) -> Discharge {
     Discharge { c_h: rounded(c_h), c_w: rounded(c_w) }
 }
 
+fn without_headroom(silo: &Silo) -> Silo {
+    Silo { headroom: None, ..silo.clone() }
+}
+
+/// The library's list, with something in it as without headroom, where such a silo is accepted.
+fn partly_level(sheet: &[u8], list: &mut [u32], put: impl Fn(&Silo, &mut [u32], &Silo)) -> u32 {
+    filled(sheet, list, |silo, list| {
+        let level = without_headroom(silo);
+        if parse(&level.sheet()).is_ok() {
+            put(silo, list, &level);
+        }
+    })
+}
+
+/// The ten bottom numbers as without headroom.
+fn put_level_bottom(silo: &Silo, list: &mut [u32], level: &Silo) {
+    let bottom = 8 * silo.depths.len();
+    list[bottom..bottom + 10].copy_from_slice(&list_of(level)[bottom..bottom + 10]);
+}
+
+/// z as far below the surface as it is above it, where the wall is so high.
+fn mirrored(silo: &Silo, z: u64) -> u64 {
+    let other = 2 * silo.g() - z.min(silo.g());
+    if z < silo.g() && other <= silo.foot() {
+        other
+    } else {
+        z
+    }
+}
+
 /// 1 - e^-q, from above.
 fn bracket(q: &Fraction) -> Fraction {
     Real::exactly(whole(1)).minus(&exponential(q)).high
@@ -188,6 +224,14 @@ fn refusing(sheet: &[u8], list: &mut [u32], refusal: u32, wrongly: fn(&Silo) -> 
     }
 }
 
+/// The library's answer, for an accepted sheet that of another silo.
+fn instead(sheet: &[u8], list: &mut [u32], other: fn(Silo) -> Silo) -> u32 {
+    match parse(sheet) {
+        Ok(silo) => loads(&other(silo).sheet(), list),
+        Err(_) => loads(sheet, list),
+    }
+}
+
 /// The library's answer, for a refused sheet of some kind that of another sheet.
 fn taken_for(sheet: &[u8], list: &mut [u32], other: fn(Silo) -> Option<Silo>) -> u32 {
     match (parse(sheet), records(sheet).ok().and_then(other)) {
@@ -196,10 +240,16 @@ fn taken_for(sheet: &[u8], list: &mut [u32], other: fn(Silo) -> Option<Silo>) ->
     }
 }
 
-/// The sheet without what is left over behind its sixth record.
+/// The sheet without what is behind its sixth record.
 fn without_rest(sheet: &[u8]) -> &[u8] {
     let mut starts = (0..sheet.len()).map(|end| &sheet[..end]);
     starts.find(|start| records(start).is_ok()).unwrap_or(sheet)
+}
+
+/// The library's answer, or one to bytes behind the sixth record.
+fn behind_sixth(sheet: &[u8], list: &mut [u32], other: fn(&[u8]) -> Option<u32>) -> u32 {
+    let rest = &sheet[without_rest(sheet).len()..];
+    other(rest).unwrap_or_else(|| loads(sheet, list))
 }
 
 /// Wrong answer lists.
@@ -380,6 +430,83 @@ const FACTORS: &[(&str, Loads)] = &[
     }),
 ];
 
+/// A headroom read otherwise.
+const HEADROOMS: &[(&str, Loads)] = &[
+    ("a headroom that is ignored", |sheet, list| {
+        instead(sheet, list, |silo| without_headroom(&silo))
+    }),
+    ("g modulo 2^16", |sheet, list| {
+        instead(sheet, list, |silo| Silo { headroom: silo.headroom.map(|g| g % 65_536), ..silo })
+    }),
+    ("g one less", |sheet, list| {
+        instead(sheet, list, |silo| Silo { headroom: silo.headroom.map(|g| g.max(1) - 1), ..silo })
+    }),
+    ("z - g in place of z in the list", |sheet, list| {
+        filled(sheet, list, |silo, list| {
+            for row in list[..8 * silo.depths.len()].chunks_mut(8) {
+                row[0] = silo.load_depth(row[0].into()) as u32;
+            }
+        })
+    }),
+    ("h without g in the factors", |sheet, list| {
+        discharged(sheet, list, |silo| {
+            Discharge::at(&c0(silo), &slenderness(&without_headroom(silo)))
+        })
+    }),
+    ("a floor at V", |sheet, list| {
+        partly_level(sheet, list, |silo, list, level| {
+            if silo.run == 0 {
+                put_level_bottom(silo, list, level);
+            }
+        })
+    }),
+    ("a hopper at V", |sheet, list| {
+        partly_level(sheet, list, |silo, list, level| {
+            if silo.run > 0 {
+                put_level_bottom(silo, list, level);
+            }
+        })
+    }),
+    ("strakes at their edges without headroom", |sheet, list| {
+        partly_level(sheet, list, |silo, list, level| {
+            put_strakes(silo, list, &Discharge::of(silo).c_h, edge_pressures(level));
+        })
+    }),
+    ("P_w without headroom", |sheet, list| {
+        partly_level(sheet, list, |silo, list, level| {
+            let level = list_of(level);
+            (0..silo.depths.len()).for_each(|i| list[8 * i + 4] = level[8 * i + 4]);
+        })
+    }),
+    ("P_w by z less z0 times the bracket of its load depth", |sheet, list| {
+        filled(sheet, list, |silo, list| {
+            let weight = formulas::before_bracket(silo)[2].over(&whole(1_000));
+            let above = magnified(silo.g() as u32, &weight);
+            each_row(silo, list, |row| row[4] = row[4].saturating_add(above));
+        })
+    }),
+    ("P_w one more under a headroom, inside its band", |sheet, list| {
+        filled(sheet, list, |silo, list| {
+            each_row(silo, list, |row| {
+                let line = formulas::filling(silo, row[0].into()).line;
+                let more = line.plus(&Real::exactly(whole(1)));
+                row[4] += u32::from(silo.g() > 0 && !more.is_at_most(&whole(row[4].into())));
+            });
+        })
+    }),
+    ("load depths as |z - g|", |sheet, list| {
+        filled(sheet, list, |silo, list| {
+            let row_at = |z| list_of(&Silo { depths: vec![z], ..silo.clone() });
+            for row in list[..8 * silo.depths.len()].chunks_mut(8) {
+                let other = row_at(mirrored(silo, row[0].into()));
+                row[1..].copy_from_slice(&other[1..8]);
+            }
+            let at_edges = silo.edges().into_iter().map(|z| row_at(mirrored(silo, z))[1]).collect();
+            put_strakes(silo, list, &Discharge::of(silo).c_h, at_edges);
+        })
+    }),
+];
+
 /// Limits one off, and rules in another order.
 const REFUSALS: &[(&str, Loads)] = &[
     ("refuses d = 500", |sheet, list| refusing(sheet, list, 6, |silo| silo.section == [500])),
@@ -418,6 +545,71 @@ const REFUSALS: &[(&str, Loads)] = &[
             (parse(&shape.sheet()) == Err(12)).then_some(shape)
         })
     }),
+    ("judges the headroom before the depths", |sheet, list| {
+        match (loads(sheet, list), records(sheet)) {
+            (11, Ok(silo)) if silo.g() >= silo.foot() => 17,
+            (answer, _) => answer,
+        }
+    }),
+    ("judges the shape before the headroom", |sheet, list| {
+        match (loads(sheet, list), records(sheet)) {
+            (17, Ok(silo)) if silo.height() >= 10 * silo.d_c() => 12,
+            (answer, _) => answer,
+        }
+    }),
+    ("takes g = V for V - 1", |sheet, list| {
+        taken_for(sheet, list, |silo| {
+            let most = silo.foot().checked_sub(1)?;
+            (silo.g() == most + 1).then_some(Silo { headroom: Some(most), ..silo })
+        })
+    }),
+    ("takes g modulo 2^16 in 17", |sheet, list| {
+        taken_for(sheet, list, |silo| {
+            let g = silo.headroom? % 65_536;
+            (silo.g() >= silo.foot()).then_some(Silo { headroom: Some(g), ..silo })
+        })
+    }),
+    ("12 by V + H", |sheet, list| {
+        refusing(sheet, list, 12, |silo| silo.foot() + silo.hopper_height >= 10 * silo.d_c())
+    }),
+    ("11 by the load depth", |sheet, list| {
+        taken_for(sheet, list, |silo| {
+            let (foot, g) = (silo.foot(), silo.g());
+            let (last, above) = silo.depths.split_last()?;
+            let depths = [above, &[foot]].concat();
+            (foot + 1..=foot + g).contains(last).then(|| Silo { depths, ..silo.clone() })
+        })
+    }),
+    ("refuses depths above the surface", |sheet, list| {
+        refusing(sheet, list, 11, |silo| silo.depths[0] < silo.g())
+    }),
+    ("refuses depths with one load depth", |sheet, list| {
+        refusing(sheet, list, 11, |silo| silo.depths.get(1).is_some_and(|z| *z <= silo.g()))
+    }),
+    ("refuses a headroom of 0", |sheet, list| {
+        refusing(sheet, list, 4, |silo| silo.headroom == Some(0))
+    }),
+    ("refuses every headroom as bytes left over", |sheet, list| {
+        refusing(sheet, list, 5, |silo| silo.headroom.is_some())
+    }),
+    ("takes kind 7 for a headroom", |sheet, list| match sheet {
+        [six @ .., 4, 0, 7, 0, a, b, c, d] if records(six).is_ok() => {
+            loads(&[six, &[4, 0, 8, 0, *a, *b, *c, *d]].concat(), list)
+        }
+        _ => loads(sheet, list),
+    }),
+    ("a byte behind the sixth record as left over", |sheet, list| {
+        behind_sixth(sheet, list, |rest| (rest.len() == 1).then_some(5))
+    }),
+    ("less than a header behind the sixth record as left over", |sheet, list| {
+        behind_sixth(sheet, list, |rest| (1..4).contains(&rest.len()).then_some(5))
+    }),
+    ("ignores less than a header behind the sixth record", |sheet, list| {
+        match sheet.len() - without_rest(sheet).len() {
+            1..4 => loads(without_rest(sheet), list),
+            _ => loads(sheet, list),
+        }
+    }),
     ("13 for squat bins", |sheet, list| refusing(sheet, list, 13, is_squat)),
     ("13 before 14 for squat bins", |sheet, list| match (loads(sheet, list), parse(sheet)) {
         (14, Ok(silo)) if is_squat(&silo) => 13,
@@ -441,6 +633,14 @@ const LENGTHS: &[(&str, Length)] = &[
     ("13 for squat bins", |sheet| match parse(sheet) {
         Ok(silo) if is_squat(&silo) => 13,
         _ => answers_length(sheet),
+    }),
+    ("no 17", |sheet| match (parse(sheet), records(sheet)) {
+        (Err(17), Ok(silo)) => (1 << 32) + silo.answers_length() as u64,
+        _ => answers_length(sheet),
+    }),
+    ("one number more for a headroom", |sheet| {
+        let more = parse(sheet).is_ok_and(|silo| silo.headroom.is_some());
+        answers_length(sheet) + u64::from(more)
     }),
 ];
 
@@ -511,8 +711,8 @@ const WRITES: &[(&str, Write)] = &[
 fn compared(library: &dyn Library) -> Outcome {
     let mut comparison = Comparison::with(library);
     let mut random = Random::new(1_991);
-    runs::table(&mut comparison, &limits::sheets())?;
     runs::table(&mut comparison, &order::sheets())?;
+    runs::table(&mut comparison, &limits::sheets())?;
     runs::accepted(&mut comparison, &mut random, 3_000)?;
     runs::pairs(&mut comparison, &mut random, 2_000)
 }
@@ -528,7 +728,7 @@ fn is_found(name: &str, outcome: Outcome) {
 
 #[test]
 fn broken_load_calls_are_found() {
-    for (name, loads) in [LISTS, FACTORS, REFUSALS].concat() {
+    for (name, loads) in [LISTS, FACTORS, HEADROOMS, REFUSALS].concat() {
         is_found(name, compared(&Broken { loads, ..WHOLE }));
     }
 }

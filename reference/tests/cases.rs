@@ -1,13 +1,14 @@
-//! The cases that document 01 writes down, as C-11 of document 02 moves them; each sheet also compared as any other.
+//! The cases that document 01 writes down, as C-11 of document 02 moves them, and the same under the headroom of C-13; each sheet also
+//! compared as any other.
 
 use reference::compare::Comparison;
 use reference::formulas::{self, Discharge};
 use reference::fraction::{fraction, whole};
 use reference::inputs::sample;
-use reference::limits::{of_height, Due};
+use reference::limits::{of_height, under_headroom, Due};
 use reference::linked::Linked;
 use reference::runs;
-use reference::sheet::Silo;
+use reference::sheet::{record, Silo};
 
 fn with(change: impl FnOnce(&mut Silo)) -> Silo {
     let mut silo = sample();
@@ -23,16 +24,28 @@ fn from_low_strake(height: u64) -> Silo {
 
 #[test]
 fn the_loads_of_the_sample() {
-    let mut comparison = Comparison::with(&Linked);
-    comparison.accepted(&sample()).unwrap();
     assert!(formulas::before_bracket(&sample())[0] == whole(31_250), "P for p_hf");
-    let list = comparison.answers(&sample()).unwrap();
-    assert_eq!(list[..8], [0; 8], "z = 0 gives 0");
+    filling_of_the_sample(&sample(), 0, 5_000);
+}
+
+/// The same product and width with the surface 3,000 under the brim.
+#[test]
+fn the_loads_of_the_sample_under_a_headroom() {
+    let silo = with(|silo| (silo.depths, silo.headroom) = (vec![2_999, 8_000], Some(3_000)));
+    filling_of_the_sample(&silo, 2_999, 8_000);
+}
+
+/// The first row has no load, the second those of the sample at 5,000.
+fn filling_of_the_sample(silo: &Silo, above: u64, below: u64) {
+    let mut comparison = Comparison::with(&Linked);
+    comparison.accepted(silo).unwrap();
+    let list = comparison.answers(silo).unwrap();
+    assert_eq!(list[..8], [above, 0, 0, 0, 0, 0, 0, 0], "no load above the surface");
     let row = &list[8..16];
-    assert_eq!(row[0], 5_000);
+    assert_eq!(row[0], below);
     for (column, lower) in [(1, 17_597), (2, 7_345), (3, 33_119), (4, 21_541)] {
         let given = row[column];
-        assert!((lower..=lower + 1).contains(&given), "number {column} at 5,000 is {given}");
+        assert!((lower..=lower + 1).contains(&given), "number {column} at {below} is {given}");
     }
 }
 
@@ -70,6 +83,7 @@ fn the_loads_made_from_given_pressures_at_7_499() {
 fn accepted_and_refused_as_written() {
     let hopper = |height| with(|silo| (silo.run, silo.hopper_height) = (1_000, height));
     let height = |height| of_height(&[5_000], height, (0, 0));
+    let under = |height, g| under_headroom(&[5_000], height, (0, 0), g);
     let silos = [
         (height(200), 0),
         (height(4_999), 0),
@@ -95,11 +109,28 @@ fn accepted_and_refused_as_written() {
         (with(|silo| silo.factor = 99), 7),
         (with(|silo| silo.depths = vec![10_000]), 0),
         (with(|silo| silo.depths = vec![10_001]), 11),
+        (under(10_000, 0), 0),
+        (under(49_999, 5_000), 0),
+        (under(50_000, 5_000), 12),
+        (under(7_499, 2_000), 0),
+        (under(7_500, 2_000), 0),
+        (with(|silo| silo.headroom = Some(9_999)), 0),
+        (with(|silo| silo.headroom = Some(10_000)), 17),
+        (with(|silo| silo.headroom = Some(5_000)), 0),
+        (with(|silo| (silo.depths, silo.headroom) = (vec![10_000], Some(1))), 0),
+        (with(|silo| (silo.depths, silo.headroom) = (vec![10_001], Some(1))), 11),
     ];
-    let sheets: Vec<Due> = silos.map(|(silo, due)| (silo.sheet(), due)).into();
+    let behind = [
+        (sample(), vec![0], 2),
+        (sample(), record(7, vec![0; 4]), 3),
+        (sample(), record(8, vec![0; 2]), 4),
+        (with(|silo| silo.headroom = Some(0)), vec![0], 5),
+    ];
+    let mut sheets: Vec<Due> = silos.map(|(silo, due)| (silo.sheet(), due)).into();
+    sheets.extend(behind.map(|(silo, bytes, due)| ([silo.sheet(), bytes].concat(), due)));
     let mut comparison = Comparison::with(&Linked);
     runs::table(&mut comparison, &sheets).unwrap();
-    comparison.report([7, 8, 9, 11, 12, 14]);
+    comparison.report([2, 3, 4, 5, 7, 8, 9, 11, 17, 12, 14]);
 }
 
 #[test]

@@ -1,4 +1,5 @@
-//! Damaged sheets: cut, extended, bytes and fields overwritten, noise, and numbers at or next to a limit.
+//! Damaged sheets, of six records and of seven: cut, extended, bytes and fields overwritten, noise, also behind the sixth record, and
+//! numbers at or next to a limit.
 
 use reference::compare::{Comparison, REFUSALS};
 use reference::inputs::Random;

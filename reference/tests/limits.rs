@@ -1,4 +1,4 @@
-//! Every limit of document 01 and of C-11 at, below and above, and sheets that break two rules at once.
+//! Every limit of document 01, of C-11 and of C-13 at, below and above, and sheets that break two rules at once.
 
 use reference::compare::{Comparison, REFUSALS};
 use reference::formulas::Discharge;
@@ -18,7 +18,7 @@ fn of_two_broken_rules_the_first_is_the_refusal() {
     let mut comparison = Comparison::with(&Linked);
     let sheets = order::sheets();
     runs::table(&mut comparison, &sheets).unwrap();
-    comparison.report(1..=12);
+    comparison.report((1..=12).chain([17]));
 }
 
 #[test]

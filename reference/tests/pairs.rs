@@ -1,5 +1,5 @@
-//! Pairs of sheets with one section and product: filling pressures that section, product and depth alone decide, and never falling,
-//! whether the bins are slender or squat.
+//! Pairs of sheets with one section and product: filling pressures that section, product and load depth alone decide, and never falling,
+//! whether the bins are slender or squat and whatever their headrooms; and sheets with a headroom beside one without.
 
 use reference::compare::Comparison;
 use reference::inputs::Random;
@@ -10,7 +10,10 @@ use reference::runs;
 fn pressures_of_one_section_and_product() {
     let mut comparison = Comparison::with(&Linked);
     runs::pairs(&mut comparison, &mut Random::new(1_991), 2_000).unwrap();
-    let (pairs, unlike) = (comparison.tally.pairs, comparison.tally.unlike_pairs);
-    println!("{pairs} pairs compared, {unlike} of them with unlike discharge factors");
-    assert!(pairs == 2_000 && (1..pairs).contains(&unlike));
+    let tally = comparison.tally;
+    let (pairs, unlike, headrooms) = (tally.pairs, tally.unlike_pairs, tally.unlike_headrooms);
+    println!("{pairs} pairs compared, {unlike} of them with unlike discharge factors, {headrooms} with unlike headrooms");
+    println!("{} silos with a headroom compared with a level one", tally.levels);
+    assert!(pairs == 2_000);
+    assert!([unlike, headrooms, tally.levels].iter().all(|some| (1..pairs).contains(some)));
 }

@@ -6,7 +6,7 @@
 //! overlaps no other.
 
 extern "C" {
-    /// Fills the answer list for a sheet. Answers 0; or a refusal, 1 to 12 or 14, and the list is as it was.
+    /// Fills the answer list for a sheet. Answers 0; or a refusal, 1 to 12, 14 or 17, and the list is as it was.
     pub fn silo_loads(
         sheet: *const u8,
         sheet_len: usize,
@@ -14,7 +14,7 @@ extern "C" {
         answers_len: usize,
     ) -> u32;
 
-    /// The answer list's length in numbers. Answers 2^32 plus that length; or a refusal, 1 to 12.
+    /// The answer list's length in numbers. Answers 2^32 plus that length; or a refusal, 1 to 12 or 17.
     pub fn silo_answers_length(sheet: *const u8, sheet_len: usize) -> u64;
 
     /// Writes the product record of a row of table 7.1; wall 0 is steel, wall 1 concrete. Answers 0; or a refusal, 15 or 16, and the

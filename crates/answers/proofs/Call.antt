@@ -1,29 +1,49 @@
 -- What the load call answers and leaves, in its three cases: refused for the sheet, refused for the list's length, filled.
 -- Assumes nothing.
-use Prim.Native.Nat.{ℕ}
+use Prim.Native.Nat.{ℕ, _≤_}
 use mathlib.Core.Path.{_≡_, refl, sym, _∙_, subst}
-use mathlib.Core.List.{List, [], _∷_}
+use mathlib.Core.Bool.{false}
+use mathlib.Core.List.{List, [], _∷_, _++_}
+use native.Mathlib.Decide.{decLe}
 use native.Mathlib.Omega.{arith}
 use borrow.Author.Tests.{eq-eqb, ne-eqb}
 use lib.Dec.{eqb}
 use lib.ListN.{length}
+use Rattle.janssen.specs.Numbers.{FillingNumbers}
 use Rattle.janssen.specs.program.Pressure.{computed}
-use Rattle.records.specs.Rules.{_unless_, first-unmet}
-use Rattle.records.specs.Format.{record-rules, records-rules, layout-rules}
-use Rattle.records.proofs.Chain.{stopped, skipped, absent}
+use Rattle.records.specs.Rules.{Rule, _unless_, first-unmet}
+use Rattle.records.specs.Format.{record-rules, records-rules}
+use Rattle.records.proofs.Chain.{stopped, skipped, apart, has, absent}
 use Rattle.sheet.specs.Refusal.{value-rules, sheet-rules, refusal-of}
 use Rattle.sheet.proofs.Acceptance.{sheet-numbered}
+use Rattle.sheet.proofs.Layouts.{by-count}
 use Rattle.answers.specs.Length.{length-due}
 use Rattle.answers.specs.Answers.{Filled, loads-rules}
 use Rattle.answers.specs.Promise.{Promise}
 use Rattle.answers.specs.program.Fill.{answers}
-use Rattle.answers.proofs.Places.{answers-filled}
+use Rattle.answers.proofs.Places.{answers-filled, filled-once}
 use Rattle.answers.proofs.Demand.{claim}
 
 -- 13 is no rule of the load call either
 pub loads-never-13 : (s : List ℕ) (n : ℕ) → first-unmet (loads-rules s n) ≡ 13 → ⊥
-unfolding loads-rules sheet-rules layout-rules records-rules record-rules value-rules
-loads-never-13 s n = absent (loads-rules s n) 13 (omega arith) refl
+unfolding loads-rules sheet-rules records-rules record-rules value-rules
+loads-never-13 s n =
+    absent (loads-rules s n) 13 (omega arith)
+    (by-count s (λ (l : List Rule). has (l ++ value-rules s ++ (14 unless eqb n (length-due s) ∷ [])) 13 ≡ false) refl refl)
+
+-- what the load call answers for a list of n numbers: the sheet's refusal, or 14
+module _ (s : List ℕ) (n : ℕ) where
+  pub refused-answer : (refusal-of s ≡ 0 → ⊥) → first-unmet (loads-rules s n) ≡ refusal-of s
+  unfolding loads-rules refusal-of
+  refused-answer h = stopped _ (sheet-rules s) h
+
+  pub last-rule : refusal-of s ≡ 0 → first-unmet (loads-rules s n) ≡ first-unmet (14 unless eqb n (length-due s) ∷ [])
+  unfolding loads-rules refusal-of
+  last-rule h = skipped _ (sheet-rules s) (sheet-numbered s) h
+
+  pub not-refused : first-unmet (loads-rules s n) ≡ 0 → refusal-of s ≡ 0
+  unfolding loads-rules refusal-of
+  not-refused h = apart _ (sheet-rules s) (sheet-numbered s) h .0
 
 module _ (s lent : List ℕ) where
   -- any refusal leaves the list as it was
@@ -31,25 +51,34 @@ module _ (s lent : List ℕ) where
   refused-with r e n = record { answer = e; unchanged = λ _. refl; filled = λ o. absurd (n o); demand = λ o. absurd (n o) }
 
   pub refused : (r : ℕ) → r ≡ refusal-of s → (r ≡ 0 → ⊥) → Promise computed s lent r lent
-  unfolding loads-rules refusal-of
-  refused r e n = refused-with r (e ∙ sym (stopped _ (sheet-rules s) (λ o. n (e ∙ o)))) n
-
-  -- an accepted sheet is left with rule 14
-  last-rule : refusal-of s ≡ 0 → first-unmet (loads-rules s (length lent)) ≡ first-unmet (14 unless eqb (length lent) (length-due s) ∷ [])
-  unfolding loads-rules refusal-of
-  last-rule h = skipped _ (sheet-rules s) (sheet-numbered s) h
+  refused r e n = refused-with r (e ∙ sym (refused-answer s (length lent) (λ o. n (e ∙ o)))) n
 
   pub unfit : refusal-of s ≡ 0 → (length lent ≡ length-due s → ⊥) → Promise computed s lent 14 lent
   unfolding first-unmet
-  unfit h n = refused-with 14 (sym (last-rule h ∙ simp (ne-eqb (length lent) (length-due s) n))) (λ o. omega arith)
+  unfit h n = refused-with 14 (sym (last-rule s (length lent) h ∙ simp (ne-eqb (length lent) (length-due s) n))) (λ o. omega arith)
 
   pub filled : (list : List ℕ) → refusal-of s ≡ 0 → length lent ≡ length-due s → list ≡ answers s → Promise computed s lent 0 list
   unfolding first-unmet
   filled list h n e =
       let fill : Filled computed s list = subst (Filled computed s) (sym e) (answers-filled s) in
       record {
-        answer = sym (last-rule h ∙ simp (eq-eqb (length lent) (length-due s) n));
+        answer = sym (last-rule s (length lent) h ∙ simp (eq-eqb (length lent) (length-due s) n));
         unchanged = λ o. absurd (o refl);
         filled = λ _. fill;
         demand = λ _. claim s list h fill;
       }
+
+-- two sheets of which the one is refused where the other is, and a list that fills the answers of the one fills those of the other
+module _ (f : FillingNumbers) (s s' : List ℕ) (answers-alike : (n : ℕ) → first-unmet (loads-rules s n) ≡ first-unmet (loads-rules s' n)) {lent left left' : List ℕ} {r r' : ℕ}
+    (filled-alike : refusal-of s ≡ 0 → Filled f s left → Filled f s' left) where
+  same-left : Promise f s lent r left → Promise f s' lent r' left' → r ≡ r' → Dec (r ≤ 0) → left ≡ left'
+  same-left a b e (yes z) =
+      let h : r ≡ 0 = omega (arith, z) in
+      filled-once f s' left left' (filled-alike (not-refused s (length lent) (sym (a .answer) ∙ h)) (a .filled h)) (b .filled (sym e ∙ h))
+  same-left a b e (no n) = a .unchanged (λ z. n (omega (arith, z))) ∙ sym (b .unchanged (λ z. n (omega (arith, z, e))))
+
+  -- then the load call, lent the same list, answers the same and leaves the same list
+  pub same-call : Promise f s lent r left → Promise f s' lent r' left' → (r ≡ r') × (left ≡ left')
+  same-call a b =
+      let e : r ≡ r' = a .answer ∙ answers-alike (length lent) ∙ sym (b .answer) in
+      (e, same-left a b e (decLe r 0))

@@ -1,34 +1,35 @@
 -- Demand 3, whole: every list that holds each number in its place for an accepted sheet meets `Claim` (`claim`).
 -- Acceptance puts section, product, factor and eccentricities inside their ranges and every depth used, listed or not, at most at
--- the wall's foot, which is less than ten widths down. There each number holds by its own law (`holds`, `rises`), and the order between
+-- the wall's foot, which is less than ten widths below the grain's surface. There each number holds by its own law (`holds`, `rises`), and the order between
 -- two lists is the order of the named pressures, which have nothing in them but section, product and depth.
 -- Assumes nothing.
 use Prim.Native.Nat.{ℕ, zero, suc, _+_, _-_, _≤_, _<_}
-use mathlib.Core.Path.{_≡_, refl, sym, subst}
+use mathlib.Core.Path.{_≡_, refl, ap, sym, subst}
 use mathlib.Core.List.{List}
 use mathlib.Core.Logic.{⊎-elim}
 use native.Mathlib.Nat.{add-zero, add-suc, le-antisymm}
 use native.Mathlib.Omega.{arith}
 use lib.ListN.{length}
-use Rattle.janssen.specs.program.Range.{InRange}
 use Rattle.janssen.specs.program.Pressure.{computed}
 use Rattle.records.specs.Format.{place, payload-length}
+use Rattle.records.proofs.Records.{six-least}
 use Rattle.description.specs.Silo.{section-of, product-of, bottom-of, depth-count, strakes-of, edge-of, V-of, h-of}
 use Rattle.description.proofs.Sums.{sum-under}
 use Rattle.sheet.specs.Refusal.{refusal-of}
-use Rattle.sheet.specs.Accepted.{Accepted}
+use Rattle.sheet.specs.Accepted.{Layout, Accepted}
 use Rattle.sheet.proofs.Acceptance.{accepted}
 use Rattle.sheet.proofs.Described.{edge-most, V-most, V-below-ten, in-range, factor-in}
 use Rattle.loads.specs.declared.Silo.{Silo}
 use Rattle.loads.specs.Load.{Load}
 use Rattle.loads.specs.Load.{OfFilling, load-depth, full-height, number}
-use Rattle.loads.specs.Load.Load.{p-he}
+use Rattle.loads.specs.Load.Load.{listed-depth, p-he}
 use Rattle.loads.specs.Holds.{Holds}
 use Rattle.loads.specs.program.Basis.{Reached, Fits}
 use Rattle.janssen.proofs.Geometry.{d-c-most}
-use Rattle.loads.proofs.LoadLaws.{load-depth-most, filling-more, holds, rises, bottom-holds}
+use Rattle.loads.proofs.LoadLaws.{filling-more, holds, rises, rises-below, bottom-holds}
 use Rattle.answers.specs.Answers.{silo-of, depth, bottom-in, Filled}
-use Rattle.answers.specs.Claim.{SameSectionAndProduct, Claim}
+use Rattle.answers.specs.Place.{rank}
+use Rattle.answers.specs.Claim.{SameSectionAndProduct, Ordered, Claim}
 use Rattle.answers.proofs.SameRecords.{same-section, same-product}
 
 -- the magnifiers and rule 12 go by one h
@@ -39,10 +40,11 @@ same-height s = refl
 module _ (s : List ℕ) (a : Accepted s) where
   -- every depth at most at the wall's foot
   pub reached : (x : ℕ) → x ≤ V-of s → Reached (silo-of s) x
+  unfolding load-depth
   reached x h =
       record {
-        below-ten = omega (arith, V-below-ten s a, load-depth-most (silo-of s) x);
-        wall = omega (arith, V-most s a, load-depth-most (silo-of s) x);
+        below-ten = omega (arith, V-below-ten s a);
+        wall = omega (arith, V-most s a);
       }
 
   pub depth-reached : (i : ℕ) → i < depth-count s → Reached (silo-of s) (depth s i)
@@ -84,25 +86,31 @@ module _ (s : List ℕ) (a : Accepted s) where
 
 two-records : (s : List ℕ) → Accepted s → place s 2 ≤ length s
 unfolding place payload-length
-two-records s a = a .layout .present 1 (omega arith)
+two-records s a = a .layout .present 1 (omega (arith, six-least s))
+
+pub section-length : (s : List ℕ) → Layout s → 4 ≤ payload-length s 0
+section-length s l = ⊎-elim (λ k. omega (arith, l .circle-length k)) (λ k. omega (arith, l .rectangle-length k)) (l .section-kind)
 
 -- section and product of two accepted sheets with equal first records
 module _ (s s' : List ℕ) (a : Accepted s) (a' : Accepted s') (e : SameSectionAndProduct s s') where
-  section-length : 4 ≤ payload-length s 0
-  section-length =
-      ⊎-elim (λ k. omega (arith, a .layout .circle-length k)) (λ k. omega (arith, a .layout .rectangle-length k)) (a .layout .section-kind)
-
   section-equal : section-of s ≡ section-of s'
-  section-equal = same-section s s' (two-records s a) (two-records s' a') e section-length (a .layout .product-length)
+  section-equal = same-section s s' (two-records s a) (two-records s' a') e (section-length s (a .layout)) (a .layout .product-length)
 
   product-equal : product-of s ≡ product-of s'
-  product-equal = same-product s s' (two-records s a) (two-records s' a') e section-length (a .layout .product-length)
+  product-equal = same-product s s' (two-records s a) (two-records s' a') e (section-length s (a .layout)) (a .layout .product-length)
 
   -- a load of filling of the other silo is no smaller at a greater depth below the surface
   number-more : {l : Load} → OfFilling l → (i j : ℕ) → j < depth-count s' → load-depth (silo-of s) (depth s i) ≤ load-depth (silo-of s') (depth s' j)
       → number computed (silo-of s) l (depth s i) ≤ number computed (silo-of s') l (depth s' j)
   number-more o i j n g =
       filling-more (silo-of s) (silo-of s') section-equal product-equal (silo-fits s' a') o (depth s i) (depth s' j) (depth-reached s' a' j n) g
+
+-- p_he is not the listed depth
+p-he-load : p-he ≡ listed-depth → ⊥
+p-he-load e = let n : ℕ = rank p-he in omega (arith, ap rank e)
+
+ordered-by : {x y n m : ℕ} → (x ≤ y → n ≤ m) → (y ≤ x → m ≤ n) → Ordered x y n m
+ordered-by up down = record { rises = up; falls = down; same = λ e. le-antisymm (up (omega arith)) (down (omega arith)) }
 
 -- demand 3
 pub claim : (s list : List ℕ) → refusal-of s ≡ 0 → Filled computed s list → Claim computed s list
@@ -118,19 +126,28 @@ claim s list h fill =
           λ k g. subst (Holds c p-he (edge-of s (suc k))) (sym (fill .at-strakes k g)) (holds c fits p-he (edge-of s (suc k)) (edge-reached s a (suc k)));
       down =
           λ l i j g n. rw (fill .at-depths l i (omega arith), fill .at-depths l j n)
-          (rises c fits l (depth s i) (depth s j) (depth-reached s a j n) (depths-down s a i j g n));
+          (rises c fits (depth s i) (depth s j) (depth-reached s a j n) l (depths-down s a i j g n));
       strakes-down =
           λ k m g n. rw (fill .at-strakes k (omega arith), fill .at-strakes m n)
-          (rises c fits p-he (edge-of s (suc k)) (edge-of s (suc m)) (edge-reached s a (suc m)) (edges-down s a (suc k) (suc m) (omega arith)));
+          (rises c fits (edge-of s (suc k)) (edge-of s (suc m)) (edge-reached s a (suc m)) p-he (edges-down s a (suc k) (suc m) (omega arith)));
+      judged =
+          λ l o i j g n. rw (fill .at-depths l i g, fill .at-depths l j n)
+          (ordered-by (rises-below c fits (depth s i) (depth s j) (depth-reached s a j n) l o)
+          (rises-below c fits (depth s j) (depth s i) (depth-reached s a i g) l o));
+      strakes-judged =
+          λ i k g n. rw (fill .at-depths p-he i g, fill .at-strakes k n)
+          (ordered-by (rises-below c fits (depth s i) (edge-of s (suc k)) (edge-reached s a (suc k)) p-he p-he-load)
+          (rises-below c fits (edge-of s (suc k)) (depth s i) (depth-reached s a i g) p-he p-he-load));
+      further-down =
+          λ l i j g n h. rw (fill .at-depths l i g, fill .at-depths l j n) (rises c fits (depth s i) (depth s j) (depth-reached s a j n) l h);
+      strakes-further-down =
+          λ i k g n. rw (fill .at-depths p-he i g, fill .at-strakes k n)
+          (ordered-by (rises c fits (depth s i) (edge-of s (suc k)) (edge-reached s a (suc k)) p-he)
+          (rises c fits (edge-of s (suc k)) (depth s i) (depth-reached s a i g) p-he));
       ordered =
           λ s' list' left e l o i j g n.
           let a' : Accepted s' = accepted s' (left .accepted) in
           let up = number-more s s' a a' e o i j n in
           let down = number-more s' s a' a (sym e) o j i g in
-          rw (fill .at-depths l i g, left .filled .at-depths l j n)
-          (record {
-            rises = up;
-            falls = down;
-            same = λ m. le-antisymm (up (omega arith)) (down (omega arith));
-          });
+          rw (fill .at-depths l i g, left .filled .at-depths l j n) (ordered-by up down);
     }

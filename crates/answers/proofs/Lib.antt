@@ -6,3 +6,4 @@ pub mod Demand
 pub mod Edges
 pub mod Whole
 pub mod Call
+pub mod Headroom

@@ -1,46 +1,41 @@
 -- Two sheets whose first two records are equal describe the same section and product: every byte that these are read from lies in
 -- those records.
 -- Assumes nothing.
-use Prim.Native.Nat.{ℕ, _+_, _*_, _≤_, _<_}
-use mathlib.Core.Path.{_≡_, ap, ap₂, sym, _∙_}
+use Prim.Native.Nat.{ℕ, _+_, _≤_, _<_}
+use mathlib.Core.Path.{_≡_, ap, sym, _∙_}
 use mathlib.Core.List.{List}
 use native.Mathlib.Omega.{arith}
 use lib.ListN.{length, getD, take}
 use lib.Seq.{getD-take, length-take-le}
 use Rattle.records.specs.Format.{u16, u32, place, payload-length, kind, payload}
+use Rattle.records.proofs.Alike.{u16-same, u32-same, place-same}
 use Rattle.description.specs.Silo.{section-of, product-sent, product-of}
 
 module _ (s s' : List ℕ) (m : ℕ) (same : (i : ℕ) → i < m → getD s i 0 ≡ getD s' i 0) where
-  u16-same : (at : ℕ) → at + 1 < m → u16 s at ≡ u16 s' at
-  unfolding u16
-  u16-same at h = ap₂ (λ (a b : ℕ). a + 256 * b) (same at (omega arith)) (same (at + 1) h)
+  abbrev two : (at : ℕ) → at + 2 ≤ m → u16 s at ≡ u16 s' at
+  two = u16-same s s' m same
 
-  u32-same : (at : ℕ) → at + 3 < m → u32 s at ≡ u32 s' at
-  unfolding u32
-  u32-same at h = ap₂ (λ (a b : ℕ). a + 65536 * b) (u16-same at (omega arith)) (u16-same (at + 2) (omega arith))
+  abbrev four : (at : ℕ) → at + 4 ≤ m → u32 s at ≡ u32 s' at
+  four = u32-same s s' m same
 
   module _ (h : place s 1 + 14 ≤ m) (g : 8 ≤ place s 1) where
-    place-same : place s 1 ≡ place s' 1
-    unfolding place
-    place-same = ap (λ (n : ℕ). 0 + 4 + n) (u16-same 0 (omega arith))
-
-    section-same : section-of s ≡ section-of s'
+    pub section-same : section-of s ≡ section-of s'
     unfolding section-of kind payload place
     section-same =
-        let t : u16 s 2 ≡ u16 s' 2 = u16-same 2 (omega arith) in
-        let a : u32 s 4 ≡ u32 s' 4 = u32-same 4 (omega arith) in
-        let b : u32 s 8 ≡ u32 s' 8 = u32-same 8 (omega arith) in
+        let t : u16 s 2 ≡ u16 s' 2 = two 2 (omega arith) in
+        let a : u32 s 4 ≡ u32 s' 4 = four 4 (omega arith) in
+        let b : u32 s 8 ≡ u32 s' 8 = four 8 (omega arith) in
         rw (t, a, b)
 
-    product-same : product-sent s ≡ product-sent s'
+    pub product-same : product-sent s ≡ product-sent s'
     unfolding product-sent payload
     product-same =
         let at = place s 1 + 4 in
-        let w : u32 s at ≡ u32 s' at = u32-same at (omega arith) in
-        let r : u16 s (at + 4) ≡ u16 s' (at + 4) = u16-same (at + 4) (omega arith) in
-        let f : u16 s (at + 6) ≡ u16 s' (at + 6) = u16-same (at + 6) (omega arith) in
-        let c : u16 s (at + 8) ≡ u16 s' (at + 8) = u16-same (at + 8) (omega arith) in
-        rw (w, r, f, c, place-same)
+        let w : u32 s at ≡ u32 s' at = four at (omega arith) in
+        let r : u16 s (at + 4) ≡ u16 s' (at + 4) = two (at + 4) (omega arith) in
+        let f : u16 s (at + 6) ≡ u16 s' (at + 6) = two (at + 6) (omega arith) in
+        let c : u16 s (at + 8) ≡ u16 s' (at + 8) = two (at + 8) (omega arith) in
+        rw (w, r, f, c, place-same s s' m same 1 (omega arith))
 
 -- the first m bytes are equal
 bytes-same : (s s' : List ℕ) (m m' : ℕ) → m ≤ length s → m' ≤ length s' → take m s ≡ take m' s'

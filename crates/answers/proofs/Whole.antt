@@ -14,7 +14,9 @@ use Rattle.description.specs.declared.Described.{Described}
 use Rattle.description.specs.program.Described.{wall-of, described-of}
 use Rattle.description.proofs.Walls.{wall-counted, wall-fits}
 use Rattle.sheet.specs.Refusal.{refusal-of}
+use Rattle.records.proofs.Records.{six-least}
 use Rattle.sheet.proofs.Acceptance.{accepted}
+use Rattle.sheet.proofs.Described.{V-most}
 use Rattle.loads.specs.program.Basis.{basis-for, Reached, Fits, Sound}
 use Rattle.loads.specs.declared.Basis.{Basis}
 use Rattle.answers.specs.Length.{length-due}
@@ -73,7 +75,7 @@ module _ (s : List ℕ) where
     unfolding payload
     depths-near =
         let l = accepted s h .layout in
-        (omega (arith, l .present 5 (omega arith), l .size), l .depths-few)
+        (omega (arith, l .present 5 (omega (arith, six-least s)), l .size), l .depths-few)
 
     -- the wall of the silo described: its places, its strakes and its foot
     pub described-wall : (d : Described) → d ≡ described-of s
@@ -83,6 +85,6 @@ module _ (s : List ℕ) where
         (λ (d : Described). (d .wall .count ≡ strake-count s) × (length (d .wall .heights) ≡ 24) × (take (d .wall .count) (d .wall .heights) ≡ strakes-of s))
         (sym e) (wall-counted s, wall-fits s strakes-few .0, wall-fits s strakes-few .1)
 
-    pub wall-reached : Reached (silo-of s) (sum (strakes-of s))
+    pub wall-reached : Reached (silo-of s) (sum (strakes-of s)) × (sum (strakes-of s) < 4294967296)
     unfolding V-of
-    wall-reached = reached s (accepted s h) (V-of s) (omega arith)
+    wall-reached = (reached s (accepted s h) (V-of s) (omega arith), omega (arith, V-most s (accepted s h)))

@@ -1,4 +1,5 @@
--- The answer list: each of its numbers, and what the load call answers. Document 01, "Sheet", "Answer list" and "Who can be refused".
+-- The answer list: each of its numbers, and what the load call answers. Document 01, "Sheet", "Answer list" and "Who can be refused"; document 02,
+-- C-13.
 use Prim.Native.Nat.{ℕ, suc, _<_, max}
 use mathlib.Core.Path.{_≡_}
 use mathlib.Core.List.{List, [], _∷_, _++_}
@@ -6,7 +7,7 @@ use lib.Dec.{eqb}
 use lib.ListN.{length, getD}
 use Rattle.records.specs.Rules.{Rule, _unless_}
 use Rattle.janssen.specs.Numbers.{FillingNumbers}
-use Rattle.description.specs.Silo.{section-of, product-of, eccentricities-of, bottom-of, depths-of, depth-count, strake-count, edge-of, V-of}
+use Rattle.description.specs.Silo.{section-of, product-of, eccentricities-of, bottom-of, depths-of, depth-count, strake-count, edge-of, V-of, headroom-of}
 use Rattle.sheet.specs.Refusal.{sheet-rules}
 use Rattle.answers.specs.Length.{length-due}
 use Rattle.loads.specs.declared.Silo.{Silo}
@@ -25,6 +26,7 @@ silo-of s =
       height = bottom-of s .height;
       run = bottom-of s .run;
       foot = V-of s;
+      headroom = headroom-of s;
     }
 
 -- the depth i as listed, mm

@@ -1,6 +1,6 @@
 // The answer list, part by part: depths, bottom, strakes.
 ghost use mathlib.Core.Path.{_≡_};
-ghost use Prim.Native.Nat.{_+_, _*_, _≤_};
+ghost use Prim.Native.Nat.{_+_, _*_, _<_, _≤_};
 ghost use lib.ListN.{length, take};
 ghost use lib.Seq.{sets};
 ghost use Rattle.exponential.specs.program.Table.{table};
@@ -57,7 +57,7 @@ fn fill_strakes(
     list: &mut [u32],
     at: usize,
 )
-    requires { ⌜ (now entries ≡ table) × Sound basis × (count ≤ 24) × (length (now heights) ≡ 24) × Reached (basis .silo) (sum (take count (now heights))) × (at + count ≤ length (now list)) ⌝ }
+    requires { ⌜ (now entries ≡ table) × Sound basis × (count ≤ 24) × (length (now heights) ≡ 24) × Reached (basis .silo) (sum (take count (now heights))) × (at + count ≤ length (now list)) × (sum (take count (now heights)) < 4294967296) ⌝ }
     ensures { λ _. ⌜ now (list .exit) ≡ sets (now (list .entry)) at (strake-numbers (basis .silo) (take count (now (heights .entry)))) ⌝ }
 {
     let mut state = WallState::top();
@@ -94,6 +94,7 @@ fn described_basis(described: Described) -> Basis
         height: described.bottom.height,
         run: described.bottom.run,
         foot: described.wall.foot,
+        headroom: described.headroom,
     };
     loads::basis_of(silo)
 }

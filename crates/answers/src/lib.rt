@@ -1,4 +1,4 @@
-// The answer list of a sheet: the call that fills it. Document 01, "Answer list" and "Who can be refused".
+// The answer list of a sheet: the call that fills it. Document 01, "Answer list" and "Who can be refused"; document 02, C-13.
 ghost use Rattle.janssen.specs.program.Pressure.{computed};
 ghost use Rattle.answers.specs.Promise.{Promise};
 

@@ -1,6 +1,6 @@
 -- The marked cases of document 01. The numbers and the cases on one sheet are computed; a case that names h holds for any
 -- sheet of that h, since the first refusal is then that of the shape.
-use Prim.Native.Nat.{ℕ, _*_}
+use Prim.Native.Nat.{ℕ}
 use native.Mathlib.Omega.{arith}
 use lib.Dec.{ltb, leb, lit<, ltb→lt, leb→le}
 use lib.ListN.{take, drop, replicate}
@@ -20,10 +20,10 @@ use Rattle.discharge.specs.Discharge.{magnifier, horizontal-magnifier, friction
 use Rattle.loads.specs.Load.{Load}
 use Rattle.loads.specs.Load.{load-depth, full-height, C-h, C-w, number}
 use Rattle.loads.specs.Load.Load.{listed-depth, p-hf, p-wf, p-vf, P-w, p-he, p-we, p-p}
-use Rattle.records.specs.Format.{u16, u32, numbers, place, kind, payload, payload-length, allowed, record-rules, records-rules, layout-rules}
+use Rattle.records.specs.Format.{u16, u32, numbers, place, kind, payload, payload-length, allowed, record-rules, records-rules, record-count, layout-rules}
 use Rattle.records.specs.Rules.{_unless_, first-unmet}
 use Rattle.records.proofs.Chain.{apart, skipped}
-use Rattle.description.specs.Silo.{section-of, product-sent, product-of, factor-read, eccentricities-of, bottom-of, strake-count, strakes-of, depth-count, depths-of, sum, V-of, h-of}
+use Rattle.description.specs.Silo.{section-of, product-sent, product-of, factor-read, eccentricities-of, bottom-of, strake-count, strakes-of, depth-count, depths-of, sum, V-of, headroom-of, h-of}
 use Rattle.sheet.specs.Refusal.{sides-met, strakes-met, depths-met, value-rules, sheet-rules, refusal-of}
 use Rattle.sheet.proofs.Layouts.{layout-numbered}
 use Rattle.answers.specs.Answers.{silo-of}
@@ -36,9 +36,9 @@ use Rattle.cases.proofs.Factor.{acts-as-135}
 by-shape : (h : ℕ) (s : List ℕ) → OfHeight h s → refusal-of s ≡ first-unmet (12 unless ltb h 50000 ∷ [])
 unfolding refusal-of sheet-rules value-rules
 by-shape h s u =
-    let shape = drop 6 (value-rules s) in
-    let p = apart (take 6 (value-rules s)) (layout-rules s) (layout-numbered s) (u .before) in
-    let q = skipped shape (take 6 (value-rules s)) refl (p .1) in
+    let shape = drop 7 (value-rules s) in
+    let p = apart (take 7 (value-rules s)) (layout-rules s) (layout-numbered s) (u .before) in
+    let q = skipped shape (take 7 (value-rules s)) refl (p .1) in
     skipped (value-rules s) (layout-rules s) (layout-numbered s) (p .0) ∙ q ∙ simp (u .width, u .height)
 
 -- h 7,499 over 5,000: C_h is 1 + 0.8·2,499/5,000 at C0 140, C_w 1 + 0.2·2,499/5,000
@@ -95,7 +95,7 @@ middle p-we = refl
 middle p-p = refl
 
 pub marked : Marked computed
-unfolding load-depth D N magnifier magnified-load patch-load filling pressure wall-load load loaded-depth z0-scaled decay limit step P q z0 γR R Ks μ up lower between denominator entry table case-sheet refusal-of value-rules sheet-rules first-unmet layout-rules records-rules record-rules allowed place payload payload-length kind u16 u32 numbers section-of product-sent eccentricities-of bottom-of strake-count strakes-of depth-count depths-of sum V-of h-of sides-met strakes-met depths-met side-a side-b d-c product-of factor-read
+unfolding load-depth D N magnifier magnified-load patch-load filling pressure wall-load load loaded-depth z0-scaled decay limit step P q z0 γR R Ks μ up lower between denominator entry table case-sheet refusal-of value-rules sheet-rules first-unmet layout-rules record-count records-rules record-rules allowed place payload payload-length kind u16 u32 numbers section-of product-sent eccentricities-of bottom-of strake-count strakes-of depth-count depths-of sum V-of headroom-of h-of sides-met strakes-met depths-met side-a side-b d-c product-of factor-read
 marked =
     record {
       described = refl;
@@ -115,6 +115,12 @@ marked =
       squat-friction-discharge = squat-friction-discharge;
       h-49999 = record { every = by-shape 49999; some = (1999 ∷ replicate 16 3000, record { before = refl; width = refl; height = refl }) };
       h-50000 = record { every = by-shape 50000; some = (2000 ∷ replicate 16 3000, record { before = refl; width = refl; height = refl }) };
+      left-over = refl;
+      seventh-kind = refl;
+      seventh-length = refl;
+      behind-seventh = refl;
+      g-9999 = refl;
+      g-10000 = refl;
       e-1250 = refl;
       e-1251 = refl;
       H-364 = refl;

@@ -1,4 +1,4 @@
--- Document 01, "Cases": those marked (m), as one statement. A circle of 5,000, γ 9,000, Ks 50, depths 0 and 5,000.
+-- Document 01, "Cases": those marked (m), as one statement; of document 02 those of C-11 and C-13. A circle of 5,000, γ 9,000, Ks 50, depths 0 and 5,000.
 use Prim.Native.Nat.{ℕ}
 use mathlib.Core.List.{List, [], _∷_, _++_}
 use mathlib.Core.Logic.{_⊎_}
@@ -42,9 +42,13 @@ case-sheet friction factor e H r strakes =
 abbrev pub five : List ℕ
 five = 2000 ∷ 2000 ∷ 2000 ∷ 2000 ∷ 2000 ∷ []
 
--- a sheet of that h with d_c = 5,000 that no rule before 12 refuses: 1 to 5 on its records, and the first six on its values
+-- the sheet of the cases with bytes behind its sixth record
+abbrev pub followed-by : List ℕ → List ℕ
+followed-by t = case-sheet 40 140 0 0 0 five ++ t
+
+-- a sheet of that h with d_c = 5,000 that no rule before 12 refuses: 1 to 5 on its records, and the first seven on its values
 pub record OfHeight (h : ℕ) (s : List ℕ) : Type 0 where
-  pub before : first-unmet (layout-rules s ++ take 6 (value-rules s)) ≡ 0
+  pub before : first-unmet (layout-rules s ++ take 7 (value-rules s)) ≡ 0
   pub width : d-c (section-of s) ≡ 5000
   pub height : h-of s ≡ h
 
@@ -59,7 +63,7 @@ case-product = record { weight = 9000; ratio = 50; friction = 40; factor = 140 }
 
 -- the silo of the cases, e 0 and flat, its foot at 10,000
 abbrev pub case-silo : Silo
-case-silo = record { section = Circle 5000; product = case-product; eccentricity = 0; height = 0; run = 0; foot = 10000 }
+case-silo = record { section = Circle 5000; product = case-product; eccentricity = 0; height = 0; run = 0; foot = 10000; headroom = 0 }
 
 -- at 5,000: z, p_hf, p_wf, p_vf, P_w, p_he, p_we, p_p
 abbrev pub middle-number : Load → ℕ
@@ -101,6 +105,14 @@ pub record Marked (f : FillingNumbers) : Type 0 where
       → number g (silo-of s) p-hf z ≡ 17597 → number g (silo-of s) p-he z ≡ 24633
   pub squat-friction-discharge : (g : FillingNumbers) (s : List ℕ) → OfHeight 7499 s → (z : ℕ)
       → number g (silo-of s) p-wf z ≡ 7345 → number g (silo-of s) p-we z ≡ 8080
+  -- behind the sixth record (document 02, C-13): one byte gives 2, kind 7 gives 3, eight bytes of payload 4, a byte behind the seventh 5
+  pub left-over : refusal-of (followed-by (0 ∷ [])) ≡ 2
+  pub seventh-kind : refusal-of (followed-by (record-bytes 7 (four-bytes 300))) ≡ 3
+  pub seventh-length : refusal-of (followed-by (record-bytes 8 (four-bytes 300 ++ four-bytes 0))) ≡ 4
+  pub behind-seventh : refusal-of (followed-by (record-bytes 8 (four-bytes 300) ++ 0 ∷ [])) ≡ 5
+  -- g 9,999 accepted, g 10,000 = V gives 17
+  pub g-9999 : refusal-of (followed-by (record-bytes 8 (four-bytes 9999))) ≡ 0
+  pub g-10000 : refusal-of (followed-by (record-bytes 8 (four-bytes 10000))) ≡ 17
   -- e 1,250 accepted, 1,251 gives 8; r 1,000 with H 364 accepted, H 363 gives 9
   pub e-1250 : refusal-of (case-sheet 40 140 1250 0 0 five) ≡ 0
   pub e-1251 : refusal-of (case-sheet 40 140 1251 0 0 five) ≡ 8

@@ -1,2 +1,3 @@
 pub mod Walls
+pub mod Headroom
 pub mod Sums

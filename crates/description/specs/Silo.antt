@@ -1,5 +1,5 @@
--- The silo that a sheet describes. Document 01, "Sheet".
-use Prim.Native.Nat.{ℕ, _+_, _/_}
+-- The silo that a sheet describes. Document 01, "Sheet"; document 02, C-13.
+use Prim.Native.Nat.{ℕ, _+_, _-_, _/_}
 use mathlib.Core.Bool.{cond}
 use mathlib.Core.List.{List, [], _∷_}
 use lib.ListN.{take}
@@ -9,7 +9,7 @@ use Rattle.janssen.specs.declared.Section.the-variants.{Circle, Rectangle}
 use Rattle.janssen.specs.declared.Product.{Product}
 use Rattle.description.specs.declared.Eccentricities.{Eccentricities}
 use Rattle.description.specs.declared.Bottom.{Bottom}
-use Rattle.records.specs.Format.{u16, u32, numbers, kind, payload, payload-length}
+use Rattle.records.specs.Format.{u16, u32, numbers, kind, payload, payload-length, record-count}
 
 -- kind 1, circle: d; or kind 2, rectangle: a, b, mm
 unfoldable pub section-of : List ℕ → Section
@@ -64,6 +64,10 @@ V-of s = sum (strakes-of s)
 unfoldable pub edge-of : List ℕ → ℕ → ℕ
 edge-of s k = sum (take k (strakes-of s))
 
--- h = V + H, mm
+-- the headroom g, from the brim down to the grain's surface, mm; a sheet of six records means 0
+unfoldable pub headroom-of : List ℕ → ℕ
+headroom-of s = cond (eqb (record-count s) 6) 0 (u32 s (payload s 6))
+
+-- h = V - g + H, mm
 unfoldable pub h-of : List ℕ → ℕ
-h-of s = V-of s + bottom-of s .height
+h-of s = V-of s - headroom-of s + bottom-of s .height

@@ -1,4 +1,4 @@
-// The silo that a sheet describes: the values of its records. Document 01, "Sheet".
+// The silo that a sheet describes: the values of its records. Document 01, "Sheet"; document 02, C-13.
 ghost use mathlib.Core.Path.{_≡_};
 ghost use Prim.Native.Nat.{_+_, _<_, _≤_};
 ghost use lib.ListN.{length};
@@ -51,6 +51,8 @@ pub struct Described {
     pub bottom: Bottom,
     pub wall: Wall,
     pub depths: Depths,
+    // g, from the brim down to the grain's surface, mm
+    pub headroom: u64,
 }
 
 // The silo that a sheet describes whose records begin at these places.
@@ -59,6 +61,7 @@ pub fn describe(sheet: &[u8], places: &[usize; 7]) -> Described
     ensures { λ r. ⌜ (r ≡ described-of (now (sheet .entry))) × Sized r ⌝ }
 {
     let last = places[5];
+    let end = places[6];
     Described {
         section: values::read_section(sheet, places[0]),
         product: values::read_product(sheet, places[1]),
@@ -67,8 +70,9 @@ pub fn describe(sheet: &[u8], places: &[usize; 7]) -> Described
         wall: values::read_wall(sheet, places[4], last),
         depths: Depths {
             start: last + 4,
-            count: values::payload_bytes(last, places[6]) / 4,
+            count: values::payload_bytes(last, end) / 4,
         },
+        headroom: values::read_headroom(sheet, end),
     }
 }
 

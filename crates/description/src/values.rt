@@ -3,7 +3,7 @@ ghost use mathlib.Core.Path.{_≡_};
 ghost use Prim.Native.Nat.{_+_, _-_, _<_, _≤_};
 ghost use Rattle.janssen.specs.Section.{side-a, side-b};
 ghost use Rattle.records.specs.Format.{place};
-ghost use Rattle.description.specs.Silo.{section-of, product-sent, factor-read, eccentricities-of, bottom-of, strake-count};
+ghost use Rattle.description.specs.Silo.{section-of, product-sent, factor-read, eccentricities-of, bottom-of, strake-count, headroom-of};
 ghost use Rattle.description.specs.program.Described.{wall-of, product-read};
 ghost use Rattle.description.specs.program.Pair.{PairAt};
 use crate::Bottom;
@@ -129,4 +129,12 @@ pub fn read_wall(sheet: &[u8], at: usize, end: usize) -> Wall
         count,
         foot,
     }
+}
+
+// The headroom: a sheet of six records ends at `at`, and what lies past its end reads as 0.
+pub fn read_headroom(sheet: &[u8], at: usize) -> u64
+    requires { ⌜ (at ≡ place (now sheet) 6) × (at ≤ 1024) ⌝ }
+    ensures { λ r. ⌜ (r ≡ headroom-of (now (sheet .entry))) × (r < 4294967296) ⌝ }
+{
+    four_bytes(sheet, at + 4)
 }

@@ -7,14 +7,12 @@ use native.Mathlib.Omega.{arith}
 use borrow.Author.Tests.{eq-eqb, ne-eqb}
 use lib.ListN.{getD, replicate, getD-replicate}
 use Rattle.fraction.specs.Fraction.{whole, _⪯_}
-use Rattle.janssen.specs.declared.Section.{Section}
-use Rattle.janssen.specs.declared.Product.{Product}
 use Rattle.janssen.specs.Section.{d-c}
 use Rattle.janssen.specs.Filling.{Kind, hundredths, factors, q, P}
 use Rattle.janssen.specs.Filling.Kind.{horizontal, vertical, wall-friction}
 use Rattle.janssen.specs.Numbers.{FillingNumbers}
 use Rattle.janssen.specs.program.Pressure.{filling, wall-load, computed}
-use Rattle.janssen.specs.program.Range.{InRange, InDepth}
+use Rattle.janssen.specs.program.Range.{InDepth}
 use Rattle.janssen.specs.program.Prepare.{AllReach}
 use Rattle.janssen.proofs.Geometry.{d-c-positive, d-c-most}
 use Rattle.janssen.proofs.FillingLaws.{filling-band-two, filling-rises}
@@ -56,14 +54,10 @@ at-quarter F G (suc (suc (suc zero))) h = (refl, refl)
 at-quarter F G (suc (suc (suc (suc zero)))) h = (refl, refl)
 at-quarter F G (suc (suc (suc (suc (suc k))))) h = absurd (omega arith)
 
--- deeper below the brim is no less deep below the surface, which does not lie above the brim
+-- deeper below the brim is no less deep below the surface
 pub load-depth-rises : (c : Silo) (depth depth' : ℕ) → depth ≤ depth' → load-depth c depth ≤ load-depth c depth'
 unfolding load-depth
-load-depth-rises c depth depth' h = h
-
-pub load-depth-most : (c : Silo) (depth : ℕ) → load-depth c depth ≤ depth
-unfolding load-depth
-load-depth-most c depth = omega arith
+load-depth-rises c depth depth' h = omega arith
 
 -- a load of filling in two silos with the same section and product: no smaller at a greater depth below the surface
 module _ (c c' : Silo) (same-section : c .section ≡ c' .section) (same-product : c .product ≡ c' .product) (fits : Fits c') where
@@ -125,21 +119,28 @@ module _ (c : Silo) (fits : Fits c) where
       patch-load-allowance (C-h c) (C-h-moderate .proper) (c .eccentricity) (d-c (c .section)) _ (C-h-moderate .most) dc-positive
       (fits .eccentricity-most) (filled-at horizontal depth d)
 
-  filling-down : {l : Load} → OfFilling l → (depth depth' : ℕ) → Reached c depth' → depth ≤ depth' → number computed c l depth ≤ number computed c l depth'
-  filling-down o depth depth' d h = filling-more c c refl refl fits o depth depth' d (load-depth-rises c depth depth' h)
+  -- no load falls with the depth below the surface, nor with that below the brim, which z itself is
+  module _ (depth depth' : ℕ) (d : Reached c depth') where
+    filling-down : {l : Load} → OfFilling l → load-depth c depth ≤ load-depth c depth' → number computed c l depth ≤ number computed c l depth'
+    filling-down o h = filling-more c c refl refl fits o depth depth' d h
 
-  -- no load falls with depth
-  pub rises : (l : Load) (depth depth' : ℕ) → Reached c depth' → depth ≤ depth' → number computed c l depth ≤ number computed c l depth'
-  rises listed-depth depth depth' d h = h
-  rises p-hf depth depth' d h = filling-down of-p-hf depth depth' d h
-  rises p-wf depth depth' d h = filling-down of-p-wf depth depth' d h
-  rises p-vf depth depth' d h = filling-down of-p-vf depth depth' d h
-  rises P-w depth depth' d h = filling-down of-P-w depth depth' d h
-  rises p-he depth depth' d h = magnified-load-mono (C-h c) (C-h-moderate .proper) (filling-down of-p-hf depth depth' d h)
-  rises p-we depth depth' d h = magnified-load-mono (C-w c) (C-w-moderate .proper) (filling-down of-p-wf depth depth' d h)
-  rises p-p depth depth' d h =
-      patch-load-mono (c .eccentricity) (d-c (c .section)) dc-positive
-      (magnified-load-mono (C-h c) (C-h-moderate .proper) (filling-down of-p-hf depth depth' d h))
+    rises-by : (l : Load) → load-depth c depth ≤ load-depth c depth' → (l ≡ listed-depth → depth ≤ depth') → number computed c l depth ≤ number computed c l depth'
+    rises-by listed-depth h g = g refl
+    rises-by p-hf h g = filling-down of-p-hf h
+    rises-by p-wf h g = filling-down of-p-wf h
+    rises-by p-vf h g = filling-down of-p-vf h
+    rises-by P-w h g = filling-down of-P-w h
+    rises-by p-he h g = magnified-load-mono (C-h c) (C-h-moderate .proper) (filling-down of-p-hf h)
+    rises-by p-we h g = magnified-load-mono (C-w c) (C-w-moderate .proper) (filling-down of-p-wf h)
+    rises-by p-p h g =
+        patch-load-mono (c .eccentricity) (d-c (c .section)) dc-positive
+        (magnified-load-mono (C-h c) (C-h-moderate .proper) (filling-down of-p-hf h))
+
+    pub rises-below : (l : Load) → (l ≡ listed-depth → ⊥) → load-depth c depth ≤ load-depth c depth' → number computed c l depth ≤ number computed c l depth'
+    rises-below l n h = rises-by l h (λ e. absurd (n e))
+
+    pub rises : (l : Load) → depth ≤ depth' → number computed c l depth ≤ number computed c l depth'
+    rises l h = rises-by l (load-depth-rises c depth depth' h) (λ e. h)
 
   -- and the bottom's, wherever they stand
   pub bottom-holds : (at : ℕ → ℕ) → ((k : ℕ) → k < 10 → at k ≡ getD (bottom-numbers computed c) k 0) → BottomHolds c at
@@ -162,10 +163,10 @@ module _ (c : Silo) (fits : Fits c) where
 
 -- the basis of a silo that fits: its curves reach every depth, d_c leaves room for the patch, and the magnifiers are moderate
 module _ (b : Basis) (sound : Sound b) where
-  pub prepared-reaches : (depth : ℕ) → Reached (b .silo) depth → AllReach (b .prepared) (load-depth (b .silo) depth)
-  prepared-reaches depth d =
-      subst (λ (x : Basis). AllReach (x .prepared) (load-depth (b .silo) depth)) (sym (sound .right))
-      (all-reach (b .silo .section) (b .silo .product) (load-depth (b .silo) depth) (sound .fits .range) d)
+  pub prepared-reaches : (depth : ℕ) {at : ℕ} → at ≡ load-depth (b .silo) depth → Reached (b .silo) depth → AllReach (b .prepared) at
+  prepared-reaches depth {at} e d =
+      subst (λ (x : Basis). AllReach (x .prepared) at) (sym (sound .right))
+      (rw e (all-reach (b .silo .section) (b .silo .product) (load-depth (b .silo) depth) (sound .fits .range) d))
 
   pub shorter-fits : (0 < b .shorter) × (b .shorter ≤ 50000) × (4 * b .silo .eccentricity ≤ b .shorter)
   shorter-fits =

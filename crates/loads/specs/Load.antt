@@ -1,6 +1,6 @@
--- The loads by name, and the number of each. Document 01, "Sheet", "Loads made from filling" and "Answer list". Lengths in mm; pressures in
--- Pa, P_w in N/m. The filling pressures and P_w are free: f names them.
-use Prim.Native.Nat.{ℕ, _+_}
+-- The loads by name, and the number of each. Document 01, "Sheet", "Loads made from filling" and "Answer list"; document 02, C-13. Lengths in mm;
+-- pressures in Pa, P_w in N/m. The filling pressures and P_w are free: f names them.
+use Prim.Native.Nat.{ℕ, _+_, _-_}
 use mathlib.Core.Bool.{cond}
 use mathlib.Core.List.{List, [], _∷_, _++_, map}
 use lib.Dec.{eqb}
@@ -25,15 +25,15 @@ pub data OfFilling : Load → Type 0 where
   of-p-vf : OfFilling p-vf
   of-P-w : OfFilling P-w
 
--- the depth at which loads are worked out, below the equivalent surface: this lies at the brim
+-- the depth at which loads are worked out, below the grain's surface: the larger of 0 and z - g
 unfoldable pub load-depth : Silo → ℕ → ℕ
-load-depth c depth = depth
+load-depth c depth = depth - c .headroom
 
 -- a filling pressure at a depth below the brim
 abbrev pub pressure-at : FillingNumbers → Silo → Kind → ℕ → ℕ
 pressure-at f c k depth = f .filling-at k (c .section) (c .product) (load-depth c depth)
 
--- h = V + H, from the equivalent surface down to the outlet
+-- h = V - g + H, from the grain's surface down to the outlet
 abbrev pub full-height : Silo → ℕ
 full-height c = load-depth c (c .foot) + c .height
 

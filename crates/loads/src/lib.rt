@@ -4,7 +4,7 @@ ghost use mathlib.Core.List.{_++_, map};
 ghost use Prim.Native.Nat.{_^_, _<_, _≤_};
 ghost use Rattle.hopper.specs.Hopper.{P-n, P-t};
 ghost use Rattle.exponential.specs.program.Table.{table};
-ghost use Rattle.loads.specs.Load.{number, quarters, normal-number, friction-number, bottom-numbers};
+ghost use Rattle.loads.specs.Load.{load-depth, number, quarters, normal-number, friction-number, bottom-numbers};
 ghost use Rattle.loads.specs.Load.Load.{p-vf, p-he};
 ghost use Rattle.loads.specs.program.Basis.{basis-for, Reached, Fits, Sound, depth-numbers};
 ghost use Rattle.janssen.specs.program.Pressure.{computed};
@@ -25,6 +25,8 @@ pub struct Silo {
     pub run: u64,
     // V, the wall's foot, mm below the brim
     pub foot: u64,
+    // g, from the brim down to the grain's surface, mm
+    pub headroom: u64,
 }
 
 // What is worked out once for a silo.
@@ -38,6 +40,17 @@ pub struct Basis {
     pub friction: Magnifier,
 }
 
+// The depth at which the loads z mm below the brim are worked out, mm below the grain's surface; 0 above it.
+fn load_depth(silo: Silo, z: u64) -> u64
+    ensures { λ r. ⌜ r ≡ load-depth silo z ⌝ }
+{
+    if z < silo.headroom {
+        0
+    } else {
+        z - silo.headroom
+    }
+}
+
 // What is worked out once, for a silo inside its ranges.
 pub fn basis_of(silo: Silo) -> Basis
     requires { ⌜ Fits silo ⌝ }
@@ -47,7 +60,7 @@ pub fn basis_of(silo: Silo) -> Basis
     let product = silo.product;
     let prepared = janssen::prepare(section, product);
     let shorter = janssen::shorter_side(section);
-    let h = silo.foot + silo.height;
+    let h = load_depth(silo, silo.foot) + silo.height;
     let horizontal = discharge::horizontal_magnifier(product.factor, h, shorter);
     let friction = discharge::friction_magnifier(h, shorter);
     Basis {
@@ -61,18 +74,20 @@ pub fn basis_of(silo: Silo) -> Basis
 
 // The eight numbers of the depth z mm below the brim.
 pub fn depth_numbers(entries: &[u64; 3393], basis: Basis, z: u64) -> [u32; 8]
-    requires { ⌜ (now entries ≡ table) × Sound basis × Reached (basis .silo) z ⌝ }
+    requires { ⌜ (now entries ≡ table) × Sound basis × Reached (basis .silo) z × (z < 4294967296) ⌝ }
     ensures { λ r. ⌜ r ≡ depth-numbers (basis .silo) z ⌝ }
 {
     let prepared = basis.prepared;
-    let filling = janssen::loads_at(entries, prepared, z);
+    let silo = basis.silo;
+    let depth = load_depth(silo, z);
+    let filling = janssen::loads_at(entries, prepared, depth);
     let p_hf = filling.horizontal;
     let p_wf = filling.wall_friction;
     let c_h = basis.horizontal;
     let c_w = basis.friction;
     let p_he = discharge::magnified(c_h, p_hf);
     let p_we = discharge::magnified(c_w, p_wf);
-    let p_p = discharge::patch(basis.silo.eccentricity, basis.shorter, p_he);
+    let p_p = discharge::patch(silo.eccentricity, basis.shorter, p_he);
     [
         z as u32,
         p_hf.0,
@@ -149,7 +164,8 @@ pub fn bottom_numbers(entries: &[u64; 3393], basis: Basis) -> [u32; 10]
     let prepared = basis.prepared;
     let curve = prepared.vertical;
     let silo = basis.silo;
-    let vertical = janssen::filling_pressure(entries, curve, silo.foot);
+    let depth = load_depth(silo, silo.foot);
+    let vertical = janssen::filling_pressure(entries, curve, depth);
     if silo.run == 0 {
         let floor = discharge::floor(vertical);
         return [floor.0, 0, 0, 0, 0, 0, 0, 0, 0, 0];
@@ -164,7 +180,9 @@ pub fn strake_number(entries: &[u64; 3393], basis: Basis, edge: u64) -> u32
 {
     let prepared = basis.prepared;
     let curve = prepared.horizontal;
-    let horizontal = janssen::filling_pressure(entries, curve, edge);
+    let silo = basis.silo;
+    let depth = load_depth(silo, edge);
+    let horizontal = janssen::filling_pressure(entries, curve, depth);
     let c_h = basis.horizontal;
     let load = discharge::magnified(c_h, horizontal);
     load.0

@@ -30,3 +30,12 @@ module _ (read : ℕ → ℕ) (step : ℕ) where
   numbers-at at (suc n) zero l = ap read (omega arith)
   numbers-at at (suc n) (suc i) l =
       let e : at + step + step * i ≡ at + step * suc i = omega arith in numbers-at (at + step) n i (omega arith) ∙ ap read e
+
+  -- two ways to read that agree at each place
+  pub numbers-same : (read' : ℕ → ℕ) (at n : ℕ) → ((i : ℕ) → i < n → read (at + step * i) ≡ read' (at + step * i)) → numbers read step at n ≡ numbers read' step at n
+  unfolding numbers
+  numbers-same read' at zero h = refl
+  numbers-same read' at (suc n) h =
+      let z : at + step * 0 ≡ at = omega arith in
+      let first : read at ≡ read' at = rw z at (h 0 (omega arith)) in
+      ap₂ _∷_ first (numbers-same read' (at + step) n (λ i l. let e : at + step + step * i ≡ at + step * suc i = omega arith in rw e (h (suc i) (omega arith))))

@@ -1,9 +1,9 @@
 -- The records of a sheet: what a due kind is, and the first refusal among the records left.
 use Prim.Native.Nat.{ℕ, zero, suc, _+_, _-_, _%_, _≤_, _<_}
 use mathlib.Core.Bool.{true, cond, _&&_}
-use mathlib.Core.List.{List, [], _∷_}
+use mathlib.Core.List.{List}
 use mathlib.Core.Logic.{_⊎_, inl, inr, ⊎-elim}
-use mathlib.Core.Path.{_≡_, refl, sym, _∙_}
+use mathlib.Core.Path.{_≡_, refl, sym, _∙_, ap, subst}
 use native.Mathlib.Decide.{decLe, decLt}
 use native.Mathlib.Numerals.{add-one}
 use native.Mathlib.Omega.{arith}
@@ -12,7 +12,9 @@ use lib.Dec.{eqb}
 use lib.ListN.{length, getD, set}
 use lib.Seq.{getD-set-same, getD-set-other}
 use Rattle.records.specs.Rules.{within, first-unmet}
-use Rattle.records.specs.Format.{u16, place, payload-length, due, step-of, most-of, allowed, record-rules, records-rules}
+use Rattle.records.specs.Format.{u16, place, payload-length, due, allowed, record-rules, records-rules, record-count}
+use Rattle.records.specs.program.Reader.{Stands}
+use Rattle.records.specs.declared.reader.Record.{Record}
 use Rattle.records.proofs.Tests.{absurd, both-true, either-true}
 use Rattle.records.proofs.Chain.{numbered, skipped, stopped}
 
@@ -36,18 +38,23 @@ pub product-length : (n : ℕ) → allowed 3 n ≡ eqb n 10
 unfolding allowed
 product-length n = one-length 10 n refl
 
--- the kinds of two numbers of four bytes: a rectangle, the eccentricities, the bottom
-pub pair-length : (t n : ℕ) → 0 < t → t < 8 → (t ≡ 1 → ⊥) → (t ≡ 3 → ⊥) → (t ≡ 6 → ⊥) → (t ≡ 7 → ⊥) → allowed t n ≡ eqb n 8
+pub headroom-length : (n : ℕ) → allowed 8 n ≡ eqb n 4
 unfolding allowed
-pair-length zero n p l a b c d = absurd (omega arith)
-pair-length (suc zero) n p l a b c d = absurd (a refl)
-pair-length (suc (suc zero)) n p l a b c d = one-length 8 n refl
-pair-length (suc (suc (suc zero))) n p l a b c d = absurd (b refl)
-pair-length (suc (suc (suc (suc zero)))) n p l a b c d = one-length 8 n refl
-pair-length (suc (suc (suc (suc (suc zero))))) n p l a b c d = one-length 8 n refl
-pair-length (suc (suc (suc (suc (suc (suc zero)))))) n p l a b c d = absurd (c refl)
-pair-length (suc (suc (suc (suc (suc (suc (suc zero))))))) n p l a b c d = absurd (d refl)
-pair-length (suc (suc (suc (suc (suc (suc (suc (suc t)))))))) n p l a b c d = absurd (omega arith)
+headroom-length n = one-length 4 n refl
+
+-- the kinds of two numbers of four bytes: a rectangle, the eccentricities, the bottom
+pub pair-length : (t n : ℕ) → 0 < t → t < 9 → (t ≡ 1 → ⊥) → (t ≡ 3 → ⊥) → (t ≡ 6 → ⊥) → (t ≡ 7 → ⊥) → (t ≡ 8 → ⊥) → allowed t n ≡ eqb n 8
+unfolding allowed
+pair-length zero n p l a b c d e = absurd (omega arith)
+pair-length (suc zero) n p l a b c d e = absurd (a refl)
+pair-length (suc (suc zero)) n p l a b c d e = one-length 8 n refl
+pair-length (suc (suc (suc zero))) n p l a b c d e = absurd (b refl)
+pair-length (suc (suc (suc (suc zero)))) n p l a b c d e = one-length 8 n refl
+pair-length (suc (suc (suc (suc (suc zero))))) n p l a b c d e = one-length 8 n refl
+pair-length (suc (suc (suc (suc (suc (suc zero)))))) n p l a b c d e = absurd (c refl)
+pair-length (suc (suc (suc (suc (suc (suc (suc zero))))))) n p l a b c d e = absurd (d refl)
+pair-length (suc (suc (suc (suc (suc (suc (suc (suc zero)))))))) n p l a b c d e = absurd (e refl)
+pair-length (suc (suc (suc (suc (suc (suc (suc (suc (suc t))))))))) n p l a b c d e = absurd (omega arith)
 
 -- a kind that is due: k + 2, or 1 for record 0
 pub due-cases : (k t : ℕ) → due k t ≡ true → (t ≡ k + 2) ⊎ ((k ≡ 0) × (t ≡ 1))
@@ -56,7 +63,7 @@ due-cases k t h =
     (λ p. let q = both-true (eqb k 0) (eqb t 1) p in inr (eqb-true k 0 (q .0), eqb-true t 1 (q .1)))
     (either-true (eqb t (k + 2)) (eqb k 0 && eqb t 1) h)
 
-pub due-kind : (k t : ℕ) → k < 6 → due k t ≡ true → (0 < t) × (t < 8)
+pub due-kind : (k t : ℕ) → k < 7 → due k t ≡ true → (0 < t) × (t < 9)
 due-kind k t l h = ⊎-elim (λ p. (omega (arith, p), omega (arith, p, l))) (λ p. (omega (arith, p .1), omega (arith, p .1))) (due-cases k t h)
 
 pub place-first : (s : List ℕ) → place s 0 ≡ 0
@@ -78,6 +85,17 @@ pub place-most : (s : List ℕ) (k n : ℕ) → place s k ≤ place s (k + n)
 place-most s k zero = let e : k + 0 ≡ k = omega arith in rw e (omega arith)
 place-most s k (suc n) = let e : k + suc n ≡ k + n + 1 = omega arith in rw e (omega (arith, place-most s k n, place-next s (k + n)))
 
+-- a record that was read: it stands at the place that it says, and where record k begins, k + 1 begins at its end; its rules, said of record k
+pub stands-there : {s : List ℕ} {at : ℕ} {f : Record} → Stands s at f → Stands s (f .place) f
+stands-there {s} {at} {f} e = subst (λ (n : ℕ). Stands s n f) (sym (e .placed)) e
+
+pub ends-there : {s : List ℕ} (k : ℕ) {at : ℕ} {f : Record} → Stands s at f → at ≡ place s k → f .start + f .length ≡ place s (k + 1)
+ends-there {s} k e p = rw (e .started, e .sized, p) (sym (place-next s k))
+
+pub judged-there : (s : List ℕ) (k : ℕ) {at r : ℕ} → at ≡ place s k → r ≡ first-unmet (record-rules s at k)
+    → r ≡ first-unmet (record-rules s (place s k) k)
+judged-there s k e h = h ∙ ap (λ (n : ℕ). first-unmet (record-rules s n k)) e
+
 -- the places noted so far, and that of record k behind them
 pub noted : (s places : List ℕ) (k at : ℕ) → k < length places → at ≡ place s k → ((j : ℕ) → j < k → getD places j 0 ≡ place s j)
     → (j : ℕ) → j < k + 1 → getD (set places k at) j 0 ≡ place s j
@@ -87,24 +105,50 @@ noted s places k at l e before j h = at-place (decLt j k)
     at-place (yes p) = getD-set-other places k j at 0 (λ z. omega (arith, z, p)) ∙ before j p
     at-place (no p) = let z : j ≡ k = omega (arith, h, p) in rw z (getD-set-same places k at 0 l ∙ e)
 
--- the records left, from record k on: the next one passed, refused, or none left
-module _ (s : List ℕ) (k : ℕ) where
-  pub record-numbered : numbered (record-rules s (place s k) k) ≡ true
-  unfolding record-rules
-  record-numbered = refl
+-- six records, where the sixth ends the sheet, or seven
+module _ (s : List ℕ) where
+  pub six-records : place s 6 ≡ length s → record-count s ≡ 6
+  unfolding record-count
+  six-records e = simp (eq-eqb (place s 6) (length s) e)
 
-  pub records-step : k < 6 → first-unmet (record-rules s (place s k) k) ≡ 0 → first-unmet (records-rules s (6 - k) k) ≡ first-unmet (records-rules s (6 - (k + 1)) (k + 1))
+  pub seven-records : (place s 6 ≡ length s → ⊥) → record-count s ≡ 7
+  unfolding record-count
+  seven-records n = simp (ne-eqb (place s 6) (length s) n)
+
+  pub record-counts : ((place s 6 ≡ length s) × (record-count s ≡ 6)) ⊎ (record-count s ≡ 7)
+  record-counts = counted (decLe (length s) (place s 6)) (decLe (place s 6) (length s))
+    where
+      counted : Dec (length s ≤ place s 6) → Dec (place s 6 ≤ length s) → ((place s 6 ≡ length s) × (record-count s ≡ 6)) ⊎ (record-count s ≡ 7)
+      counted (yes l) (yes h) = let e : place s 6 ≡ length s = omega (arith, l, h) in inl (e, six-records e)
+      counted (yes l) (no h) = inr (seven-records (λ e. omega (arith, e, h)))
+      counted (no l) h = inr (seven-records (λ e. omega (arith, e, l)))
+
+  pub six-least : 6 ≤ record-count s
+  six-least = ⊎-elim (λ e. omega (arith, e .1)) (λ e. omega (arith, e)) record-counts
+
+  pub seven-most : record-count s ≤ 7
+  seven-most = ⊎-elim (λ e. omega (arith, e .1)) (λ e. omega (arith, e)) record-counts
+
+pub record-numbered : (s : List ℕ) (k : ℕ) → numbered (record-rules s (place s k) k) ≡ true
+unfolding record-rules
+record-numbered s k = refl
+
+-- of n records those left, from record k on: the next one passed, refused, or none left
+module _ (s : List ℕ) (n k : ℕ) where
+  pub records-step : k < n → first-unmet (record-rules s (place s k) k) ≡ 0
+      → first-unmet (records-rules s (n - k) k) ≡ first-unmet (records-rules s (n - (k + 1)) (k + 1))
   unfolding records-rules
   records-step l h =
-      let e : 6 - k ≡ suc (6 - suc k) = omega arith in
-      rw (add-one, e) (skipped _ (record-rules s (place s k) k) record-numbered h)
+      let e : n - k ≡ suc (n - suc k) = omega arith in
+      rw (add-one, e) (skipped _ (record-rules s (place s k) k) (record-numbered s k) h)
 
-  pub records-stop : k < 6 → (first-unmet (record-rules s (place s k) k) ≡ 0 → ⊥) → first-unmet (records-rules s (6 - k) k) ≡ first-unmet (record-rules s (place s k) k)
+  pub records-stop : k < n → (first-unmet (record-rules s (place s k) k) ≡ 0 → ⊥)
+      → first-unmet (records-rules s (n - k) k) ≡ first-unmet (record-rules s (place s k) k)
   unfolding records-rules
   records-stop l h =
-      let e : 6 - k ≡ suc (6 - suc k) = omega arith in
+      let e : n - k ≡ suc (n - suc k) = omega arith in
       rw e (stopped _ (record-rules s (place s k) k) h)
 
-  pub records-end : 6 ≤ k → first-unmet (records-rules s (6 - k) k) ≡ cond (eqb (place s k) (length s)) 0 5
+  pub records-end : n ≤ k → first-unmet (records-rules s (n - k) k) ≡ cond (eqb (place s k) (length s)) 0 5
   unfolding records-rules first-unmet
-  records-end l = let e : 6 - k ≡ 0 = omega arith in rw e refl
+  records-end l = let e : n - k ≡ 0 = omega arith in rw e refl

@@ -34,7 +34,7 @@ use denote.Steps.{only, owned, heard, nothing}
 use denote.Slice.{sliceVal, ShrSlice}
 use denote.Struct.Declared.{Declared}
 use denote.Struct.Laws as LL
-use denote.Struct.Rest.{all-own, ownAt, rest, own-open, own-out, own-put}
+use denote.Struct.Rest.{all-own, ownAt, rest, own-open, own-out}
 use denote.Struct.Values.{Values}
 use denote.Exit.{yes}
 use denote.Triple.Clauses.{Ended, Clauses, closing}

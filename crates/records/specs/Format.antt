@@ -1,7 +1,7 @@
--- The sheet's bytes: little-endian numbers and six records. Document 01, "Sheet".
+-- The sheet's bytes: little-endian numbers and records. Document 01, "Sheet"; document 02, C-13.
 use Prim.Native.Nat.{ℕ, zero, suc, _+_, _*_, _/_, _%_}
 use mathlib.Core.List.{List, [], _∷_, _++_}
-use mathlib.Core.Bool.{Bool, _&&_, _||_}
+use mathlib.Core.Bool.{Bool, cond, _&&_, _||_}
 use lib.ListN.{length, getD}
 use lib.Dec.{leb, eqb}
 use Rattle.records.specs.Rules.{within, Rule, _unless_}
@@ -47,12 +47,12 @@ payload s k = place s k + 4
 abbrev pub due : ℕ → ℕ → Bool
 due k t = eqb t (k + 2) || (eqb k 0 && eqb t 1)
 
--- by kind, 1 to 7 (the entry before them is no kind): a payload is of step, 2 step, .. up to most bytes; 1 to 24 strakes of 2, 1 to 200 depths of 4
+-- by kind, 1 to 8 (the entry before them is no kind): a payload is of step, 2 step, .. up to most bytes; 1 to 24 strakes of 2, 1 to 200 depths of 4
 abbrev pub step-of : ℕ → ℕ
-step-of t = getD (1 ∷ 4 ∷ 8 ∷ 10 ∷ 8 ∷ 8 ∷ 2 ∷ 4 ∷ []) t 0
+step-of t = getD (1 ∷ 4 ∷ 8 ∷ 10 ∷ 8 ∷ 8 ∷ 2 ∷ 4 ∷ 4 ∷ []) t 0
 
 abbrev pub most-of : ℕ → ℕ
-most-of t = getD (0 ∷ 4 ∷ 8 ∷ 10 ∷ 8 ∷ 8 ∷ 48 ∷ 800 ∷ []) t 0
+most-of t = getD (0 ∷ 4 ∷ 8 ∷ 10 ∷ 8 ∷ 8 ∷ 48 ∷ 800 ∷ 4 ∷ []) t 0
 
 -- the payload lengths that a kind allows
 unfoldable pub allowed : ℕ → ℕ → Bool
@@ -72,6 +72,10 @@ unfoldable pub records-rules : List ℕ → ℕ → ℕ → List Rule
 records-rules s zero k = 5 unless eqb (place s k) (length s) ∷ []
 records-rules s (suc n) k = record-rules s (place s k) k ++ records-rules s n (suc k)
 
--- at most 1,024 bytes, then the six records
+-- six records, and a seventh where bytes follow the sixth
+unfoldable pub record-count : List ℕ → ℕ
+record-count s = cond (eqb (place s 6) (length s)) 6 7
+
+-- at most 1,024 bytes, then the records
 unfoldable pub layout-rules : List ℕ → List Rule
-layout-rules s = 1 unless leb (length s) 1024 ∷ records-rules s 6 0
+layout-rules s = 1 unless leb (length s) 1024 ∷ records-rules s (record-count s) 0

@@ -1,5 +1,4 @@
 // A record reader on the caller's sheet: a slice reference and a position. Nothing is copied. Document 01, "Sheet".
-ghost use mathlib.Core.Path.{_≡_};
 ghost use Prim.Native.Nat.{_<_};
 ghost use Rattle.records.specs.program.Reader.{Stands};
 use crate::bytes::two_bytes;

@@ -8,15 +8,15 @@ use crate::reader::Record;
 
 // Whether the kind is the one due for record k.
 fn kind_due(k: usize, kind: u64) -> bool
-    requires { ⌜ k < 6 ⌝ }
+    requires { ⌜ k < 7 ⌝ }
     ensures { λ r. ⌜ r ≡ due k kind ⌝ }
 {
     (kind == k as u64 + 2) | ((k == 0) & (kind == 1))
 }
 
-// Whether a kind, 1 to 7, allows a payload of so many bytes: 1 to 24 strakes of 2, 1 to 200 depths of 4, else one length alone.
+// Whether a kind, 1 to 8, allows a payload of so many bytes: 1 to 24 strakes of 2, 1 to 200 depths of 4, else one length alone.
 fn length_allowed(kind: u64, length: u64) -> bool
-    requires { ⌜ (0 < kind) × (kind < 8) ⌝ }
+    requires { ⌜ (0 < kind) × (kind < 9) ⌝ }
     ensures { λ r. ⌜ r ≡ allowed kind length ⌝ }
 {
     match kind {
@@ -24,13 +24,14 @@ fn length_allowed(kind: u64, length: u64) -> bool
         3 => length == 10,
         6 => (2 <= length) & (length <= 48) & (length % 2 == 0),
         7 => (4 <= length) & (length <= 800) & (length % 4 == 0),
+        8 => length == 4,
         _ => length == 8,
     }
 }
 
 // The first refusal of rules 2, 3 and 4 of a record that stands where record k is due, or 0.
 pub fn record_refusal(sheet: &[u8], found: Record, k: usize) -> u32
-    requires { ⌜ Stands (now sheet) (found .place) found × (found .place < 1000000) × (k < 6) ⌝ }
+    requires { ⌜ Stands (now sheet) (found .place) found × (found .place < 1000000) × (k < 7) ⌝ }
     ensures { λ r. ⌜ r ≡ first-unmet (record-rules (now (sheet .entry)) (found .place) k) ⌝ }
 {
     if sheet.len() < found.start {

@@ -1,8 +1,8 @@
 -- A sheet is not refused exactly when it is `Accepted`: no rule of the chain refuses when each is met, and each rule's test says the
 -- inequalities of `Accepted`.
 use Prim.Native.Nat.{ℕ, _*_}
-use mathlib.Core.Bool.{true, _&&_, _||_}
-use mathlib.Core.List.{List}
+use mathlib.Core.Bool.{true, false, _&&_, _||_}
+use mathlib.Core.List.{List, _++_}
 use mathlib.Core.Logic.{_⊎_, inl, inr, ⊎-elim}
 use mathlib.Core.Path.{_≡_, refl, sym, _∙_}
 use native.Mathlib.Omega.{arith}
@@ -14,17 +14,17 @@ use Rattle.janssen.specs.declared.Product.{Product}
 use Rattle.janssen.specs.Section.{side-a, side-b, d-c}
 use Rattle.janssen.specs.program.Range.{Within, InRange}
 use Rattle.description.specs.declared.Bottom.{Bottom}
-use Rattle.records.specs.Rules.{within, first-unmet}
+use Rattle.records.specs.Rules.{Rule, within, first-unmet}
 use Rattle.records.specs.Format.{u32, record-rules, records-rules, layout-rules}
 use Rattle.records.proofs.Tests.{both-true, either-true, either-right, within-true, true-within}
-use Rattle.records.proofs.Chain.{numbered, met-at, met, apart, skipped, stopped, absent}
+use Rattle.records.proofs.Chain.{numbered, met-at, met, apart, skipped, stopped, has, absent}
 use Rattle.records.proofs.Numbers.{numbers-length}
-use Rattle.description.specs.Silo.{section-of, product-sent, eccentricities-of, bottom-of, strakes-of, depths-of, depth-count, V-of, h-of}
+use Rattle.description.specs.Silo.{section-of, product-sent, eccentricities-of, bottom-of, strakes-of, depths-of, depth-count, V-of, headroom-of, h-of}
 use Rattle.description.proofs.Walls.{strakes-length}
 use Rattle.sheet.specs.Refusal.{side-met, sides-met, product-met, flat, hopper, value-rules, sheet-rules, refusal-of}
 use Rattle.sheet.specs.Accepted.{Hopper, Accepted}
 use Rattle.sheet.proofs.Heights.{strakes-met-at, at-strakes-met, rising-most, rising-next, next-rising}
-use Rattle.sheet.proofs.Layouts.{layout-numbered, layout-of, of-layout}
+use Rattle.sheet.proofs.Layouts.{by-count, layout-numbered, layout-of, of-layout}
 
 -- the first refusal is that of the records or, where they have none, that of the values
 module _ (s : List ℕ) {r : ℕ} where
@@ -140,7 +140,8 @@ accepted s h =
       strakes-range = λ i j. let p = strakes-met-at (strakes-of s) (m 4) i (omega arith) in record { least = p .0; most = p .1 };
       depths-most = λ i j. rising-most (V-of s) 0 (depths-of s) (m 5) i (omega arith);
       depths-rise = λ i j. rising-next (V-of s) 0 (depths-of s) (m 5) i (omega arith);
-      below-ten = ltb-true (h-of s) (10 * dc) (m 6);
+      headroom-less = ltb-true (headroom-of s) (V-of s) (m 6);
+      below-ten = ltb-true (h-of s) (10 * dc) (m 7);
     }
 
 -- accepted: not refused
@@ -161,18 +162,19 @@ not-refused s a =
       of-bottom (d-c c) (bottom-of s) (v .bottom-shape),
       at-strakes-met (strakes-of s) (λ i j. let w = a .strakes-range i (omega arith) in (w .least, w .most)),
       next-rising (V-of s) 0 (depths-of s) (λ j. omega arith) (λ i j. a .depths-most i (omega arith)) (λ i j. a .depths-rise i (omega arith)),
+      lt-ltb (headroom-of s) (V-of s) (a .headroom-less),
       lt-ltb (h-of s) (10 * d-c c) (a .below-ten),
     )
 
 pub sheet-numbered : (s : List ℕ) → numbered (sheet-rules s) ≡ true
-unfolding sheet-rules layout-rules records-rules record-rules value-rules
-sheet-numbered s = refl
+unfolding sheet-rules records-rules record-rules value-rules
+sheet-numbered s = by-count s (λ (l : List Rule). numbered (l ++ value-rules s) ≡ true) refl refl
 
 -- 13 and 14 are no rules of the sheet: the length call never answers them
 pub never-13 : (s : List ℕ) → refusal-of s ≡ 13 → ⊥
-unfolding refusal-of sheet-rules layout-rules records-rules record-rules value-rules
-never-13 s = absent (sheet-rules s) 13 (omega arith) refl
+unfolding refusal-of sheet-rules records-rules record-rules value-rules
+never-13 s = absent (sheet-rules s) 13 (omega arith) (by-count s (λ (l : List Rule). has (l ++ value-rules s) 13 ≡ false) refl refl)
 
 pub never-14 : (s : List ℕ) → refusal-of s ≡ 14 → ⊥
-unfolding refusal-of sheet-rules layout-rules records-rules record-rules value-rules
-never-14 s = absent (sheet-rules s) 14 (omega arith) refl
+unfolding refusal-of sheet-rules records-rules record-rules value-rules
+never-14 s = absent (sheet-rules s) 14 (omega arith) (by-count s (λ (l : List Rule). has (l ++ value-rules s) 14 ≡ false) refl refl)

@@ -1,6 +1,6 @@
 -- What the layers above may use of an accepted sheet: every number inside its range, the wall's edges, the depths.
 -- A sum of at most 24 strakes of at most 3,000 is at most 72,000; each strake of at least 200 moves the edge down.
-use Prim.Native.Nat.{ℕ, suc, _+_, _*_, _≤_, _<_}
+use Prim.Native.Nat.{ℕ, suc, _+_, _-_, _*_, _≤_, _<_}
 use mathlib.Core.List.{List, [], _∷_}
 use mathlib.Core.Logic.{_⊎_, ⊎-elim}
 use mathlib.Core.Path.{_≡_, refl, ap, sym, _∙_}
@@ -10,7 +10,7 @@ use lib.ListN.{length, getD, take}
 use lib.Seq.{take-length}
 use Rattle.janssen.specs.Section.{d-c}
 use Rattle.janssen.specs.program.Range.{Within, InRange}
-use Rattle.description.specs.Silo.{section-of, product-sent, product-of, factor-read, strakes-of, strake-count, depths-of, sum, V-of, h-of, edge-of}
+use Rattle.description.specs.Silo.{section-of, product-sent, product-of, factor-read, strakes-of, strake-count, depths-of, sum, V-of, headroom-of, h-of, edge-of}
 use Rattle.description.specs.program.Described.{wall-of, described-of}
 use Rattle.sheet.specs.Refusal.{value-rules}
 use Rattle.sheet.specs.program.Judged.{described-rules}
@@ -74,8 +74,8 @@ module _ (s : List ℕ) where
         let m = sum-most 3000 (strakes-of s) (λ i j. a .strakes-range i (omega arith) .most) in
         omega arith
 
-    -- the wall is less than ten widths high
-    pub V-below-ten : V-of s < 10 * d-c (section-of s)
+    -- the grain stands less than ten widths high at the wall
+    pub V-below-ten : V-of s - headroom-of s < 10 * d-c (section-of s)
     unfolding h-of
     V-below-ten = let h = a .below-ten in omega arith
 

@@ -10,13 +10,13 @@ use native.Mathlib.Omega.{arith}
 use borrow.Author.Tests.{leb-true, eqb-true, le-leb, eq-eqb}
 use lib.Dec.{leb, eqb}
 use lib.ListN.{length}
-use Rattle.records.specs.Rules.{within, _unless_, first-unmet}
-use Rattle.records.specs.Format.{u16, place, kind, payload-length, due, step-of, most-of, allowed, record-rules, records-rules, layout-rules}
+use Rattle.records.specs.Rules.{within, Rule, _unless_, first-unmet}
+use Rattle.records.specs.Format.{u16, place, kind, payload-length, due, step-of, most-of, allowed, record-rules, records-rules, record-count, layout-rules}
 use Rattle.description.specs.Silo.{strake-count, depth-count}
 use Rattle.sheet.specs.Accepted.{Layout}
 use Rattle.records.proofs.Tests.{both-true, within-true, true-within, absurd}
 use Rattle.records.proofs.Chain.{numbered, met-at, met, apart, skipped}
-use Rattle.records.proofs.Records.{due-cases, record-numbered}
+use Rattle.records.proofs.Records.{due-cases, record-numbered, record-counts, six-least, seven-most}
 
 allowed-range : (t n : ℕ) → allowed t n ≡ true → (step-of t ≤ n) × (n ≤ most-of t) × (n % step-of t ≡ 0)
 unfolding allowed
@@ -86,17 +86,25 @@ first-kind s f = ⊎-elim (λ e. inr e) (λ p. inl (p .1)) (due-cases 0 (kind s 
 bounds : (s : List ℕ) (k t : ℕ) → Fine s k → kind s k ≡ t → (step-of t ≤ payload-length s k) × (payload-length s k ≤ most-of t) × (payload-length s k % step-of t ≡ 0)
 bounds s k t f e = allowed-range t (payload-length s k) (ap (λ u. allowed u (payload-length s k)) (sym e) ∙ f .due-length)
 
+-- what holds of the rules of six records and of those of seven
+module _ (s : List ℕ) (Holds : List Rule → Type 0) where
+  pub by-count : Holds (1 unless leb (length s) 1024 ∷ records-rules s 6 0) → Holds (1 unless leb (length s) 1024 ∷ records-rules s 7 0) → Holds (layout-rules s)
+  unfolding layout-rules
+  by-count six seven = ⊎-elim (λ e. rw (e .1) six) (λ e. rw e seven) (record-counts s)
+
 pub layout-numbered : (s : List ℕ) → numbered (layout-rules s) ≡ true
-unfolding layout-rules records-rules record-rules
-layout-numbered s = refl
+unfolding records-rules record-rules
+layout-numbered s = by-count s (λ (l : List Rule). numbered l ≡ true) refl refl
 
 pub layout-of : (s : List ℕ) → first-unmet (layout-rules s) ≡ 0 → Layout s
 unfolding layout-rules strake-count depth-count
 layout-of s h =
     let size = 1 unless leb (length s) 1024 ∷ [] in
-    let p = apart (records-rules s 6 0) size refl h in
-    let r = records-fine s 6 0 (p .1) in
-    let f : (k : ℕ) → k < 6 → Fine s k = λ k l. r .0 k (omega arith) l in
+    let n = six-least s in
+    let p = apart (records-rules s (record-count s) 0) size refl h in
+    let none : 0 + record-count s ≡ record-count s = omega arith in
+    let r = records-fine s (record-count s) 0 (p .1) in
+    let f : (k : ℕ) → k < record-count s → Fine s k = λ k l. r .0 k (omega arith) (omega (arith, l)) in
     let f0 = f 0 (omega arith) in
     let f1 = f 1 (omega arith) in
     let f2 = f 2 (omega arith) in
@@ -124,7 +132,8 @@ layout-of s h =
       depths-length = omega arith;
       depths-some = omega arith;
       depths-few = omega arith;
-      ends = r .1;
+      headroom-length = λ e. let f6 = f 6 (omega arith) in let b = bounds s 6 8 f6 (later-kind s 6 (omega arith) f6) in omega arith;
+      ends = rw none at (r .1);
     }
 
 due-later : (k : ℕ) → due k (k + 2) ≡ true
@@ -141,6 +150,7 @@ fine-later s k t e d l h m i =
 fine-circle : (s : List ℕ) → Layout s → kind s 0 ≡ 1 → Fine s 0
 fine-circle s a e =
     let n = a .circle-length e in
+    let six = six-least s in
     record {
       due-kind = rw e;
       due-length = rw e (range-allowed 1 (payload-length s 0) (omega arith) (omega arith) (omega arith));
@@ -149,34 +159,39 @@ fine-circle s a e =
 
 fine-first : (s : List ℕ) → Layout s → Fine s 0
 fine-first s a =
+    let six = six-least s in
     ⊎-elim (fine-circle s a)
     (λ e. let n = a .rectangle-length e in fine-later s 0 2 e refl (omega arith) (omega arith) (omega arith) (a .present 0 (omega arith)))
     (a .section-kind)
 
-six : (P : ℕ → Type 0) → P 0 → P 1 → P 2 → P 3 → P 4 → P 5 → (k : ℕ) → k < 6 → P k
-six P a b c d e f zero l = a
-six P a b c d e f (suc zero) l = b
-six P a b c d e f (suc (suc zero)) l = c
-six P a b c d e f (suc (suc (suc zero))) l = d
-six P a b c d e f (suc (suc (suc (suc zero)))) l = e
-six P a b c d e f (suc (suc (suc (suc (suc zero))))) l = f
-six P a b c d e f (suc (suc (suc (suc (suc (suc k)))))) l = absurd (omega arith)
+each : (P : ℕ → Type 0) (n : ℕ) → n ≤ 7 → P 0 → P 1 → P 2 → P 3 → P 4 → P 5 → (n ≡ 7 → P 6) → (k : ℕ) → k < n → P k
+each P n m a b c d e f g zero l = a
+each P n m a b c d e f g (suc zero) l = b
+each P n m a b c d e f g (suc (suc zero)) l = c
+each P n m a b c d e f g (suc (suc (suc zero))) l = d
+each P n m a b c d e f g (suc (suc (suc (suc zero)))) l = e
+each P n m a b c d e f g (suc (suc (suc (suc (suc zero))))) l = f
+each P n m a b c d e f g (suc (suc (suc (suc (suc (suc zero)))))) l = g (omega arith)
+each P n m a b c d e f g (suc (suc (suc (suc (suc (suc (suc k))))))) l = absurd (omega arith)
 
 pub of-layout : (s : List ℕ) → Layout s → first-unmet (layout-rules s) ≡ 0
 unfolding first-unmet layout-rules strake-count depth-count
 of-layout s a =
-    let k : (k : ℕ) → 0 < k → k < 6 → kind s k ≡ k + 2 = a .other-kinds in
-    let i : (k : ℕ) → k < 6 → place s k + 4 + payload-length s k ≤ length s = a .present in
+    let n = six-least s in
+    let k : (k : ℕ) → 0 < k → k < record-count s → kind s k ≡ k + 2 = a .other-kinds in
+    let i : (k : ℕ) → k < record-count s → place s k + 4 + payload-length s k ≤ length s = a .present in
     let n1 = a .product-length in
     let n2 = a .filling-length in
     let n3 = a .bottom-length in
     let n4 = a .strakes-length in
     let n5 = a .depths-length in
-    let f : (k : ℕ) → k < 6 → Fine s k =
-    six (Fine s) (fine-first s a)
+    let none : 0 + record-count s ≡ record-count s = omega arith in
+    let f : (k : ℕ) → k < record-count s → Fine s k =
+    each (Fine s) (record-count s) (seven-most s) (fine-first s a)
     (fine-later s 1 3 (k 1 (omega arith) (omega arith)) refl (omega arith) (omega arith) (omega arith) (i 1 (omega arith)))
     (fine-later s 2 4 (k 2 (omega arith) (omega arith)) refl (omega arith) (omega arith) (omega arith) (i 2 (omega arith)))
     (fine-later s 3 5 (k 3 (omega arith) (omega arith)) refl (omega arith) (omega arith) (omega arith) (i 3 (omega arith)))
     (fine-later s 4 6 (k 4 (omega arith) (omega arith)) refl (omega arith) (omega arith) (omega arith) (i 4 (omega arith)))
-    (fine-later s 5 7 (k 5 (omega arith) (omega arith)) refl (omega arith) (omega arith) (omega arith) (i 5 (omega arith))) in
-    simp (le-leb (length s) 1024 (a .size)) (fine-records s 6 0 (λ k _ l. f k l) (a .ends))
+    (fine-later s 5 7 (k 5 (omega arith) (omega arith)) refl (omega arith) (omega arith) (omega arith) (i 5 (omega arith)))
+    (λ e. let n6 = a .headroom-length e in fine-later s 6 8 (k 6 (omega arith) (omega arith)) refl (omega arith) (omega arith) (omega arith) (i 6 (omega arith))) in
+    simp (le-leb (length s) 1024 (a .size)) (fine-records s (record-count s) 0 (λ k _ l. f k (omega (arith, l))) (rw none (a .ends)))

@@ -1,4 +1,4 @@
--- Acceptance in plain inequalities: what a sheet that is not refused has. Document 01, "Sheet" and "Who can be refused".
+-- Acceptance in plain inequalities: what a sheet that is not refused has. Document 01, "Sheet" and "Who can be refused"; document 02, C-13.
 use Prim.Native.Nat.{ℕ, suc, _+_, _*_, _≤_, _<_}
 use mathlib.Core.List.{List}
 use mathlib.Core.Logic.{_⊎_}
@@ -10,18 +10,18 @@ use Rattle.janssen.specs.Section.{d-c}
 use Rattle.janssen.specs.program.Range.{Within, InRange}
 use Rattle.description.specs.declared.Eccentricities.{Eccentricities}
 use Rattle.description.specs.declared.Bottom.{Bottom}
-use Rattle.records.specs.Format.{kind, payload-length, place}
-use Rattle.description.specs.Silo.{section-of, product-sent, eccentricities-of, bottom-of, strakes-of, depths-of, strake-count, depth-count, V-of, h-of}
+use Rattle.records.specs.Format.{kind, payload-length, place, record-count}
+use Rattle.description.specs.Silo.{section-of, product-sent, eccentricities-of, bottom-of, strakes-of, depths-of, strake-count, depth-count, V-of, headroom-of, h-of}
 
--- six records, each with its payload inside the sheet, and nothing behind the last
+-- six records or seven, each with its payload inside the sheet, and nothing behind the last
 pub record Layout (s : List ℕ) : Type 0 where
   -- 1
   pub size : length s ≤ 1024
   -- 2
-  pub present : (k : ℕ) → k < 6 → place s k + 4 + payload-length s k ≤ length s
+  pub present : (k : ℕ) → k < record-count s → place s k + 4 + payload-length s k ≤ length s
   -- 3
   pub section-kind : (kind s 0 ≡ 1) ⊎ (kind s 0 ≡ 2)
-  pub other-kinds : (k : ℕ) → 0 < k → k < 6 → kind s k ≡ k + 2
+  pub other-kinds : (k : ℕ) → 0 < k → k < record-count s → kind s k ≡ k + 2
   -- 4
   pub circle-length : kind s 0 ≡ 1 → payload-length s 0 ≡ 4
   pub rectangle-length : kind s 0 ≡ 2 → payload-length s 0 ≡ 8
@@ -34,8 +34,9 @@ pub record Layout (s : List ℕ) : Type 0 where
   pub depths-length : payload-length s 5 ≡ 4 * depth-count s
   pub depths-some : 1 ≤ depth-count s
   pub depths-few : depth-count s ≤ 200
+  pub headroom-length : record-count s ≡ 7 → payload-length s 6 ≡ 4
   -- 5
-  pub ends : place s 6 ≡ length s
+  pub ends : place s (record-count s) ≡ length s
 
 -- 9: flat, or a hopper
 pub record Hopper (dc : ℕ) (b : Bottom) : Type 0 where
@@ -65,5 +66,7 @@ pub record Accepted (s : List ℕ) : Type 0 where
   -- 11
   pub depths-most : (i : ℕ) → i < depth-count s → getD (depths-of s) i 0 ≤ V-of s
   pub depths-rise : (i : ℕ) → suc i < depth-count s → getD (depths-of s) i 0 < getD (depths-of s) (suc i) 0
+  -- 17
+  pub headroom-less : headroom-of s < V-of s
   -- 12
   pub below-ten : h-of s < 10 * d-c (section-of s)

@@ -1,4 +1,4 @@
--- The rules of a sheet in order, and the first refusal that applies to it. Document 01, "Who can be refused".
+-- The rules of a sheet in order, and the first refusal that applies to it. Document 01, "Who can be refused"; document 02, C-13.
 use Prim.Native.Nat.{ℕ, _+_, _*_}
 use mathlib.Core.Bool.{Bool, true, _&&_, _||_}
 use mathlib.Core.List.{List, [], _∷_, _++_}
@@ -10,7 +10,7 @@ use Rattle.description.specs.declared.Eccentricities.{Eccentricities}
 use Rattle.description.specs.declared.Bottom.{Bottom}
 use Rattle.records.specs.Rules.{within, Rule, _unless_, first-unmet}
 use Rattle.records.specs.Format.{layout-rules}
-use Rattle.description.specs.Silo.{section-of, product-sent, eccentricities-of, bottom-of, strakes-of, depths-of, V-of, h-of}
+use Rattle.description.specs.Silo.{section-of, product-sent, eccentricities-of, bottom-of, strakes-of, depths-of, V-of, headroom-of, h-of}
 
 -- 6: d, a and b from 500 to 50,000
 abbrev pub side-met : ℕ → Bool
@@ -47,7 +47,7 @@ unfoldable pub depths-met : ℕ → ℕ → List ℕ → Bool
 depths-met top low [] = true
 depths-met top low (z ∷ l) = within low top z && depths-met top (z + 1) l
 
--- the rules of a sheet's values, in order; 12: h < 10·d_c; 13 is retired (document 02, C-11)
+-- the rules of a sheet's values, in order; 17: g < V; 12: h < 10·d_c; 13 is retired (document 02, C-11)
 unfoldable pub value-rules : List ℕ → List Rule
 value-rules s =
     6 unless sides-met (section-of s)
@@ -56,10 +56,11 @@ value-rules s =
     ∷ 9 unless (flat (bottom-of s) || hopper (d-c (section-of s)) (bottom-of s))
     ∷ 10 unless strakes-met (strakes-of s)
     ∷ 11 unless depths-met (V-of s) 0 (depths-of s)
+    ∷ 17 unless ltb (headroom-of s) (V-of s)
     ∷ 12 unless ltb (h-of s) (10 * d-c (section-of s))
     ∷ []
 
--- 1 to 5 on the records, then 6 to 12 on the values
+-- 1 to 5 on the records, then 6 to 11, 17 and 12 on the values
 unfoldable pub sheet-rules : List ℕ → List Rule
 sheet-rules s = layout-rules s ++ value-rules s
 

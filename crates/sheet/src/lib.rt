@@ -1,4 +1,4 @@
-// The refusals of a data sheet, and the silo that it describes. Document 01, "Who can be refused".
+// The refusals of a data sheet, and the silo that it describes. Document 01, "Who can be refused"; document 02, C-13.
 ghost use mathlib.Core.Path.{_≡_};
 ghost use Rattle.records.specs.Rules.{first-unmet};
 ghost use Rattle.records.specs.Format.{layout-rules};
@@ -7,9 +7,9 @@ ghost use Rattle.description.specs.program.Described.{described-of, Sized};
 ghost use Rattle.sheet.specs.Refusal.{value-rules};
 use description::Described;
 
-pub mod rules; // rules 6 to 12 on the values
+pub mod rules; // rules 6 to 12 and 17 on the values
 
-// What a sheet describes, beside the first refusal of rules 6 to 12, or 0.
+// What a sheet describes, beside the first refusal of rules 6 to 12 and 17, or 0.
 pub struct Judged {
     pub refused: u32,
     pub described: Described,

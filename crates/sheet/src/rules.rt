@@ -1,4 +1,4 @@
-// Rules 6 to 12, each a test; dc is d_c, mm.
+// Rules 6 to 12 and 17, each a test; dc is d_c, mm.
 ghost use mathlib.Core.Path.{_≡_};
 ghost use Prim.Native.Nat.{_*_, _<_, _≤_};
 ghost use lib.Dec.{ltb};
@@ -104,6 +104,13 @@ fn depths_met(sheet: &[u8], depths: Depths, foot: u64) -> bool
     true
 }
 
+// Rule 17: the grain's surface lies above the wall's foot.
+fn headroom_met(headroom: u64, foot: u64) -> bool
+    ensures { λ r. ⌜ r ≡ ltb headroom foot ⌝ }
+{
+    headroom < foot
+}
+
 // Rule 12.
 fn height_met(dc: u64, h: u64) -> bool
     requires { ⌜ dc < 4294967296 ⌝ }
@@ -112,7 +119,7 @@ fn height_met(dc: u64, h: u64) -> bool
     h < 10 * dc
 }
 
-// The first refusal of rules 6 to 12 of the silo described, or 0. No rule behind it is worked out.
+// The first refusal of rules 6 to 11, 17 and 12 of the silo described, or 0. No rule behind it is worked out.
 pub fn values_refusal(sheet: &[u8], described: Described) -> u32
     requires { ⌜ Sized described × (described .depths ≡ depths-in (now sheet)) ⌝ }
     ensures { λ r. ⌜ r ≡ first-unmet (described-rules described (depths-of (now (sheet .entry)))) ⌝ }
@@ -142,7 +149,11 @@ pub fn values_refusal(sheet: &[u8], described: Described) -> u32
     if !depths_met(sheet, depths, foot) {
         return 11;
     }
-    if !height_met(dc, foot + bottom.height) {
+    let headroom = described.headroom;
+    if !headroom_met(headroom, foot) {
+        return 17;
+    }
+    if !height_met(dc, foot - headroom + bottom.height) {
         return 12;
     }
     0

@@ -1,12 +1,14 @@
 //! seeds FOLDER: writes inputs for the fuzzer to start from, a file each: accepted sheets, damaged ones, silos of each kind of discharge
-//! factors, the numbers of a catalogue call, and strake lists.
+//! factors, headrooms, the numbers of a catalogue call, and strake lists.
 
 use reference::inputs::{self, Random};
-use reference::limits::of_height;
+use reference::limits::{of_height, under_headroom};
 
 const SILOS: u64 = 24;
 /// h over a d_c of 5,000: low, as high as wide, squat, and slender from its limit on.
 const HEIGHTS: [u64; 5] = [200, 5_000, 6_250, 7_499, 7_500];
+/// Under a wall of 7,800: none, some, all but a millimetre; and a silo that without its headroom is too high.
+const HEADROOMS: [(u64, u64); 4] = [(7_800, 0), (7_500, 300), (1, 7_799), (49_999, 5_000)];
 /// Row 8, wall 1 and a buffer of 14 bytes, where `compare_input` reads them.
 const CATALOGUE: [u8; 9] = [8, 0, 0, 0, 1, 0, 0, 0, 14];
 /// Lists of one number each, the second of which governs, and of no number and one.
@@ -18,6 +20,7 @@ fn main() {
     let mut inputs = vec![CATALOGUE.to_vec()];
     inputs.extend(STRAKES.map(<[u8]>::to_vec));
     inputs.extend(HEIGHTS.map(|height| of_height(&[5_000], height, (0, 0)).sheet()));
+    inputs.extend(HEADROOMS.map(|(height, g)| under_headroom(&[5_000], height, (0, 0), g).sheet()));
     for _ in 0..SILOS {
         let silo = inputs::silo(&mut random);
         inputs.extend([silo.sheet(), inputs::damaged(&mut random, &silo)]);

@@ -6,9 +6,9 @@ use super::wrap;
 use crate::report::{Report, PROGRAM};
 use std::path::Path;
 
-/// Widths of the title block to choose from: the first that leaves the foot lowest, give or take a
-/// line.
-const WIDTHS: [f64; 5] = [400.0, 460.0, 520.0, 580.0, 650.0];
+/// Widths of the title block to choose from: the first that leaves the foot lowest, give or take half
+/// a line.
+const WIDTHS: [f64; 5] = [400.0, 460.0, 520.0, 580.0, 640.0];
 /// Between notes and title block.
 const GAP: f64 = 24.0;
 /// For the names at the left of the title block, and for the numbers of the notes.
@@ -102,7 +102,7 @@ fn rows(report: &Report) -> Vec<(&'static str, String)> {
 pub fn draw(svg: &mut Svg, report: &Report) -> f64 {
     let feet = WIDTHS.map(|width| Foot::of(report, width));
     let lowest = feet.iter().map(Foot::top).fold(f64::MIN, f64::max);
-    let foot = feet.iter().find(|foot| foot.top() >= lowest - LINE).unwrap_or(&feet[0]);
+    let foot = feet.iter().find(|foot| foot.top() >= lowest - LINE / 2.0).unwrap_or(&feet[0]);
     foot.draw(svg);
     foot.top()
 }

@@ -34,6 +34,8 @@ pub const CURVES: [Curve; 5] = [
 
 /// Strakes' numbers stand at least so far from each other.
 const APART: f64 = 11.0;
+/// The room that words need.
+const WORDS: f64 = 16.0;
 
 /// Of all pressures in the chart, Pa; at least 1.
 pub fn greatest(curves: &Loads) -> u32 {
@@ -49,6 +51,9 @@ pub fn draw(svg: &mut Svg, report: &Report, layout: &Layout, curves: &Loads) {
     let scale = (CHART.1 - CHART.0) / (greatest / step).ceil() / step;
     pressure_axis(svg, report, layout, (step, scale));
     depth_axis(svg, layout);
+    if report.silo.headroom > 0 {
+        surface(svg, report.silo, layout);
+    }
     if !layout.is_aligned() {
         own_depths(svg, report.silo, layout);
     }
@@ -92,6 +97,14 @@ fn depth_axis(svg: &mut Svg, layout: &Layout) {
     }
     let middle = layout.chart_y(layout.wall / 2.0);
     svg.upright("middle head", (CHART.1 + 53.0, middle), "depth z below the brim, mm");
+}
+
+/// The grain's surface, below which the pressures rise, its words above it where there is room.
+fn surface(svg: &mut Svg, silo: &Description, layout: &Layout) {
+    let y = layout.chart_y(silo.headroom.into());
+    svg.line("surface", (CHART.0, y), (CHART.1, y));
+    let words = if y - layout.brim < WORDS { y + 11.0 } else { y - 5.0 };
+    svg.over("end", (CHART.1 - 4.0, words), "surface of the grain");
 }
 
 /// The strakes' numbers at their edges, and that the chart's depths are not the silo's.

@@ -1,6 +1,8 @@
 //! Where the parts of the page stand, in pixels, and the scales from mm.
 
-use super::svg::Point;
+use super::shown::headroom;
+use super::svg::{Point, SMALL};
+use super::wrap::width;
 use crate::description::Description;
 
 /// The margins, at least 10 mm, which are 37.8.
@@ -96,9 +98,10 @@ impl Layout {
     fn above(silo: &Description, brim: f64, lowest: f64) -> Layout {
         let wall = silo.wall_height() as f64;
         let width = f64::from(silo.section.shorter_side());
+        let ends = ends(silo, WIDE_SILO);
         let rows = FIRST + LINE * (silo.strakes.len() - 1) as f64;
         let room = lowest - brim - 2.0 * BELOW_FLOOR - TABLE_HEAD - rows;
-        let scale = (room / wall).min((WIDE_SILO.1 - WIDE_SILO.0) / width);
+        let scale = (room / wall).min((ends.1 - ends.0) / width);
         Layout {
             brim,
             scale,
@@ -107,15 +110,16 @@ impl Layout {
             strake_rows: Vec::new(),
             hopper_rows: Vec::new(),
             line: LINE,
-            ends: WIDE_SILO,
+            ends,
             table: (LEFT, brim + wall * scale + BELOW_FLOOR + TABLE_HEAD),
         }
     }
 
     /// The silo at the left of its tables.
     fn beside(silo: &Description, brim: f64, lowest: f64) -> Layout {
-        let (wall, height) = (silo.wall_height() as f64, silo.height() as f64);
+        let (wall, height) = (silo.wall_height() as f64, silo.built_height() as f64);
         let width = f64::from(silo.section.shorter_side());
+        let ends = ends(silo, SILO);
         let (room, strakes) = (lowest - brim, silo.strakes.len() as f64);
         let (below, head, points) = match silo.is_flat() {
             true => (BELOW_FLOOR, BELOW_FLOOR, 0),
@@ -124,7 +128,7 @@ impl Layout {
         let line = LINE.min((room - FIRST - head - 6.0) / (strakes - 1.0 + points as f64));
         let beside = head + line * points as f64;
         let scale =
-            ((room - below) / height).min((room - beside) / wall).min((SILO.1 - SILO.0) / width);
+            ((room - below) / height).min((room - beside) / wall).min((ends.1 - ends.0) / width);
         let beside_wall = (wall * scale - FIRST) / (strakes - 1.0);
         let rows_fit = beside_wall >= line.min(TIGHTEST);
         let is_aligned = rows_fit && wall * scale >= LOWEST_CHART;
@@ -136,7 +140,7 @@ impl Layout {
             strake_rows: Vec::new(),
             hopper_rows: Vec::new(),
             line: if rows_fit { line.min(beside_wall) } else { line },
-            ends: SILO,
+            ends,
             table: (TABLE.0, brim),
         }
     }
@@ -209,7 +213,7 @@ impl Layout {
             right: axis + half,
             axis,
             brim: self.brim,
-            surface: self.brim,
+            surface: self.silo_y(silo.headroom.into()),
             foot,
             outlet: foot + self.length(silo.hopper_height),
             outlet_left: axis - outlet_half,
@@ -224,6 +228,14 @@ impl Layout {
             let part = k as f64 / (POINTS - 1) as f64;
             (outlet_right + (right - outlet_right) * part, outlet + (foot - outlet) * part)
         })
+    }
+}
+
+/// The ends between which a silo stands: those given, less the text of a headroom at the right.
+fn ends(silo: &Description, (left, right): Point) -> Point {
+    match silo.headroom {
+        0 => (left, right),
+        _ => (left, right - width(&headroom(silo), SMALL) - 4.0),
     }
 }
 
@@ -273,6 +285,7 @@ mod tests {
             hopper_run,
             strakes,
             depths: vec![0],
+            headroom: 0,
         }
     }
 

@@ -39,6 +39,11 @@ pub fn degrees(silo: &Description) -> String {
     format!("α {}°", silo.degrees())
 }
 
+/// From the brim down to the grain's surface.
+pub fn headroom(silo: &Description) -> String {
+    format!("g {}", length(silo.headroom))
+}
+
 #[cfg(test)]
 mod tests {
     use super::*;

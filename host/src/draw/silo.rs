@@ -2,12 +2,13 @@
 
 use super::hopper;
 use super::layout::{Layout, Outline};
-use super::shown::length;
+use super::shown::{self, length};
 use super::svg::{Point, Svg, OUTSIDE, SHORTEST};
 use crate::description::{Description, Section};
 
-/// A strake drawn lower than this carries no number.
+/// A strake drawn lower than this, or in a silo narrower than this, carries no number.
 const LEAST_NUMBERED: f64 = 12.0;
+const NARROWEST_NUMBERED: f64 = 24.0;
 /// From one height's text to the other's.
 const LINE: f64 = 13.0;
 /// Length of the arrows of filling and outlet.
@@ -42,16 +43,27 @@ pub fn draw(svg: &mut Svg, silo: &Description, layout: &Layout) {
 
 fn strakes(svg: &mut Svg, silo: &Description, layout: &Layout, outline: &Outline) {
     let last = silo.strakes.len() - 1;
+    let is_wide = outline.right - outline.left >= NARROWEST_NUMBERED;
     for (i, (height, edge)) in silo.edges().enumerate() {
         let lower = layout.silo_y(edge as f64);
         let upper = lower - layout.length(height.into());
         if i == last && !silo.is_flat() || i < last && layout.has_edge(silo, i) {
             svg.line("edge", (outline.left, lower), (outline.right, lower));
         }
-        if lower - upper >= LEAST_NUMBERED {
+        let (upper, lower) = larger_part((upper, lower), outline.surface);
+        if is_wide && lower - upper >= LEAST_NUMBERED {
             let middle = (outline.left + 10.0, (lower + upper) / 2.0 + 3.5);
             svg.text("middle", middle, &(i + 1).to_string());
         }
+    }
+}
+
+/// Of a strake the part above or below the grain's surface.
+fn larger_part((upper, lower): Point, surface: f64) -> Point {
+    match upper < surface && surface < lower {
+        true if surface - upper > lower - surface => (upper, surface),
+        true => (surface, lower),
+        false => (upper, lower),
     }
 }
 
@@ -117,14 +129,30 @@ fn eccentricity(svg: &mut Svg, name: &str, distance: u32, (axis, x): Point, y: f
     svg.over("start", start, &format!("{name} {}", length(distance)));
 }
 
-/// Where the grain comes in: an arrow that ends on its surface.
+/// Where the grain comes in: an arrow from above the brim that ends on its surface.
 fn filling(svg: &mut Svg, silo: &Description, layout: &Layout, outline: &Outline) {
     let x = outline.axis + layout.length(silo.filling_eccentricity);
     if silo.filling_eccentricity > 0 {
-        let y = outline.surface - 15.0;
+        let y = outline.brim - 15.0;
         eccentricity(svg, "e_i", silo.filling_eccentricity, (outline.axis, x), y);
     }
-    svg.arrow((x, outline.surface - ARROW), (x, outline.surface));
+    svg.arrow((x, outline.brim - ARROW), (x, outline.surface));
+}
+
+/// The grain's surface and how far it lies below the brim, over the lines from the wall to the table.
+pub fn headroom(svg: &mut Svg, silo: &Description, layout: &Layout) {
+    if silo.headroom == 0 {
+        return;
+    }
+    let Outline { left, right, brim, surface, .. } = layout.outline(silo);
+    svg.line("surface", (left, surface), (right, surface));
+    let x = right + 12.0;
+    for y in [brim, surface] {
+        svg.line("extension", (right + 3.0, y), (x + 4.0, y));
+    }
+    svg.dimension((x, brim), (x, surface));
+    let middle = (x + 6.0, (brim + surface) / 2.0 + 3.5);
+    svg.over("start", middle, &shown::headroom(silo));
 }
 
 /// Where the grain goes out: an arrow from the floor or the outlet, at the axis where the outlet

@@ -6,7 +6,7 @@ use super::depths::Depths;
 use crate::catalogue::Origin;
 use crate::description::{Description, Section, MOST_STRAKES};
 use crate::name::{self, Name};
-use crate::number::{Measure, LENGTH, SIDE, STRAKE};
+use crate::number::{Measure, HEADROOM, LENGTH, SIDE, STRAKE};
 use crate::report::Labels;
 use crate::value;
 
@@ -262,6 +262,7 @@ impl<'a> Reader<'a> {
         let bottom = self.bottom(section);
         let strakes = self.strakes();
         let depths = self.depths(strakes.as_deref());
+        let headroom = self.headroom();
         let (product, origin) = product?;
         let (hopper_height, hopper_run) = bottom?;
         let description = Description {
@@ -273,6 +274,7 @@ impl<'a> Reader<'a> {
             hopper_run,
             strakes: strakes?,
             depths: depths?,
+            headroom: headroom?,
         };
         Some((description, origin))
     }
@@ -333,6 +335,14 @@ impl<'a> Reader<'a> {
             value::list(value, &STRAKE, MOST_STRAKES, "no list; write heights as 3 x 1200, 900 mm")
         })?;
         heights.into_iter().map(|height| height.try_into().ok()).collect()
+    }
+
+    /// Without a line, or with one that is left blank, the grain reaches the brim.
+    fn headroom(&mut self) -> Option<u32> {
+        match self.entries[Name::Headroom as usize] {
+            None | Some((_, "")) => Some(0),
+            Some(_) => self.number(Name::Headroom, &HEADROOM),
+        }
     }
 
     /// Depths at the strakes' edges or at even steps need a wall whose strakes could be read.

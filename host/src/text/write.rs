@@ -31,6 +31,10 @@ pub fn write(description: &Description) -> String {
     }
     lines.push((Name::Strakes, runs(&description.strakes) + " mm"));
     lines.push((Name::Depths, depths::written(description)));
+    if description.headroom > 0 {
+        let counted = "  # depths are from the brim, loads from the grain's surface";
+        lines.push((Name::Headroom, length(description.headroom) + counted));
+    }
     let kind = description.is_accepted().then(|| Discharge::of(description).shown());
     let kind = kind.map(|kind| format!("# {kind}\n"));
     let lines = lines.into_iter().map(|(name, value)| format!("{} = {value}\n", name.word()));

@@ -1,12 +1,12 @@
-//! compare [SHEETS [SEED]]: compares the catalogue and the governing call, then at least that many random sheets, 1,000,000 where nothing is
-//! said, and prints how many of each kind.
+//! compare [SHEETS [SEED]]: compares the catalogue and the governing call, then at least that many random sheets, 1,000,000 where nothing
+//! is said, and prints how many of each kind; none of the kinds and refusals may be missing.
 //!
 //! compare --exactly SHEETS [SEED]: lends memory of exactly its length on the heap and no canaries, for valgrind.
 //!
 //! A difference ends it with status 1 and the sheet in hexadecimal.
 
 use reference::calls::Outcome;
-use reference::compare::Comparison;
+use reference::compare::{Comparison, REFUSALS};
 use reference::inputs::Random;
 use reference::linked::Linked;
 use reference::runs;
@@ -41,15 +41,14 @@ fn main() -> ExitCode {
         arguments.get(i).map_or(default, |text| text.parse().expect("a whole number"))
     };
     let (sheets, seed) = (number(0, 1_000_000), number(1, 1_991));
-    let outcome = run(&mut comparison, sheets, seed);
-    println!("{}", comparison.tally);
-    match outcome {
+    match run(&mut comparison, sheets, seed) {
         Ok(()) => {
+            comparison.report(REFUSALS);
             println!("no difference (seed {seed})");
             ExitCode::SUCCESS
         }
         Err(difference) => {
-            println!("{difference}\n(seed {seed})");
+            println!("{}\n{difference}\n(seed {seed})", comparison.tally);
             ExitCode::FAILURE
         }
     }

@@ -23,6 +23,7 @@ silo-in d =
       height = d .bottom .height;
       run = d .bottom .run;
       foot = d .wall .foot;
+      headroom = d .headroom;
     }
 
 -- F of each index from k on, n of them, one after the other

@@ -19,17 +19,20 @@ module _ (s places : List ℕ) (l : Located s places) (short : length s ≤ 1024
   stands k h =
       let e : k + (6 - k) ≡ 6 = omega (arith, h) in
       let most : place s k ≤ place s 6 = subst (λ (n : ℕ). place s k ≤ place s n) e (place-most s k (6 - k)) in
-      (l .located k h, omega (arith, l .located k h, most, l .ends, short))
+      (l .located k h, omega (arith, l .located k h, most, l .inside, short))
 
 element-copy-out-last : tie.Need-element-copy-out-last
 element-copy-out-last c = search needs
+
+element-copy-out-end : tie.Need-element-copy-out-end
+element-copy-out-end c = search needs
 
 element-copy-out-read-section : tie.Need-element-copy-out-read-section
 element-copy-out-read-section c = search needs
 
 read-section-requires : tie.Need-read-section-requires
 read-section-requires c κs =
-    let start = c .before .before .before in
+    let start = c .before .before .before .before in
     stands (start .args .sheet .now) (start .args .places .now) (start .pre .0) (start .pre .1) 0 (omega arith)
 
 element-copy-out-read-product : tie.Need-element-copy-out-read-product
@@ -37,7 +40,7 @@ element-copy-out-read-product c = search needs
 
 read-product-requires : tie.Need-read-product-requires
 read-product-requires c κs =
-    let start = c .before .before .before .before .before in
+    let start = c .before .before .before .before .before .before in
     stands (start .args .sheet .now) (start .args .places .now) (start .pre .0) (start .pre .1) 1 (omega arith)
 
 element-copy-out-read-eccentricities : tie.Need-element-copy-out-read-eccentricities
@@ -45,7 +48,7 @@ element-copy-out-read-eccentricities c = search needs
 
 read-eccentricities-requires : tie.Need-read-eccentricities-requires
 read-eccentricities-requires c κs =
-    let start = c .before .before .before .before .before .before .before in
+    let start = c .before .before .before .before .before .before .before .before in
     stands (start .args .sheet .now) (start .args .places .now) (start .pre .0) (start .pre .1) 2 (omega arith)
 
 element-copy-out-read-bottom : tie.Need-element-copy-out-read-bottom
@@ -53,7 +56,7 @@ element-copy-out-read-bottom c = search needs
 
 read-bottom-requires : tie.Need-read-bottom-requires
 read-bottom-requires c κs =
-    let start = c .before .before .before .before .before .before .before .before .before in
+    let start = c .before .before .before .before .before .before .before .before .before .before in
     stands (start .args .sheet .now) (start .args .places .now) (start .pre .0) (start .pre .1) 3 (omega arith)
 
 element-copy-out-read-wall : tie.Need-element-copy-out-read-wall
@@ -61,27 +64,29 @@ element-copy-out-read-wall c = search needs
 
 read-wall-requires : tie.Need-read-wall-requires
 read-wall-requires c κs =
-    let start = c .before .before .before .before .before .before .before .before .before .before .before in
+    let start = c .before .before .before .before .before .before .before .before .before .before .before .before in
     let at = stands (start .args .sheet .now) (start .args .places .now) (start .pre .0) (start .pre .1) in
     (at 4 (omega arith) .0, at 5 (omega arith) .0, at 5 (omega arith) .1, start .pre .2)
 
-add-t26 : tie.Need-add-t26
-add-t26 c =
-    let start = c .before .before .before .before .before .before .before .before .before .before .before .before in
+add-t29 : tie.Need-add-t29
+add-t29 c =
+    let start = c .before .before .before .before .before .before .before .before .before .before .before .before .before in
     omega (arith, stands (start .args .sheet .now) (start .args .places .now) (start .pre .0) (start .pre .1) 5 (omega arith) .1)
-
-element-copy-out-payload-bytes : tie.Need-element-copy-out-payload-bytes
-element-copy-out-payload-bytes c = search needs
 
 payload-bytes-requires : tie.Need-payload-bytes-requires
 payload-bytes-requires c κs =
     let start = c .before .before .before .before .before .before .before .before .before .before .before .before .before in
     payload-between (start .args .sheet .now) 5 (start .pre .0 .located 5 (omega arith)) (start .pre .0 .located 6 (omega arith)) .0
 
+read-headroom-requires : tie.Need-read-headroom-requires
+read-headroom-requires c κs =
+    let start = c .before .before .before .before .before .before .before .before .before .before .before .before .before .before in
+    stands (start .args .sheet .now) (start .args .places .now) (start .pre .0) (start .pre .1) 6 (omega arith)
+
 returns : tie.Need-returns
 unfolding depth-count payload wall-of
 returns c =
-    let start = c .before .before .before .before .before .before .before .before .before .before .before .before .before .before in
+    let start = c .before .before .before .before .before .before .before .before .before .before .before .before .before .before .before in
     let s = start .args .sheet .now in
     let l = start .pre .0 in
     let section = c .before .before .before .before .before .before .before .before .before .before .read-section .ensures in
@@ -92,7 +97,7 @@ returns c =
     let first : getD (start .args .places .now) 5 0 + 4 ≡ payload s 5 = ap (λ (n : ℕ). n + 4) (l .located 5 (omega arith)) in
     let between = payload-between s 5 (l .located 5 (omega arith)) (l .located 6 (omega arith)) in
     let end = stands s (start .args .places .now) l (start .pre .1) 6 (omega arith) .1 in
-    let count : c .payload-bytes .result / 4 ≡ depth-count s = ap (λ (n : ℕ). n / 4) (c .payload-bytes .ensures ∙ between .1) in (
+    let count : c .before .payload-bytes .result / 4 ≡ depth-count s = ap (λ (n : ℕ). n / 4) (c .before .payload-bytes .ensures ∙ between .1) in (
       λ i. record {
         section = section .0 i;
         product = product i;
@@ -100,6 +105,7 @@ returns c =
         bottom = bottom .0 i;
         wall = wall .0 i;
         depths = record { start = first i; count = count i };
+        headroom = c .read-headroom .ensures .0 i;
       },
       record {
         a-small = section .1;
@@ -112,7 +118,8 @@ returns c =
         places = rw (wall .0) (wall-fits s (start .pre .2) .0);
         strakes-few = rw (wall .0) (start .pre .2);
         start-near = omega (arith, between .0, end);
-        depths-few = omega (arith, c .payload-bytes .ensures, end);
+        depths-few = omega (arith, c .before .payload-bytes .ensures, end);
+        headroom-small = c .read-headroom .ensures .1;
       },
     )
 
@@ -121,6 +128,7 @@ describe-spec =
     tie.close
     (tie.spec
     element-copy-out-last
+    element-copy-out-end
     element-copy-out-read-section
     read-section-requires
     element-copy-out-read-product
@@ -131,7 +139,7 @@ describe-spec =
     read-bottom-requires
     element-copy-out-read-wall
     read-wall-requires
-    add-t26
-    element-copy-out-payload-bytes
+    add-t29
     payload-bytes-requires
+    read-headroom-requires
     returns)

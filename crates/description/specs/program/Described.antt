@@ -9,7 +9,7 @@ use Rattle.description.specs.declared.Wall.{Wall}
 use Rattle.description.specs.declared.Depths.{Depths}
 use Rattle.description.specs.declared.Described.{Described}
 use Rattle.records.specs.Format.{payload}
-use Rattle.description.specs.Silo.{section-of, product-sent, factor-read, eccentricities-of, bottom-of, strake-count, strakes-of, V-of, depth-count}
+use Rattle.description.specs.Silo.{section-of, product-sent, factor-read, eccentricities-of, bottom-of, strake-count, strakes-of, V-of, depth-count, headroom-of}
 
 -- the product as its loads see it
 abbrev pub product-read : Product → Product
@@ -31,6 +31,7 @@ described-of s =
       bottom = bottom-of s;
       wall = wall-of s;
       depths = depths-in s;
+      headroom = headroom-of s;
     }
 
 -- what every description holds, whatever its sheet: numbers that no sum or product of the rules makes too large, and its 24 places
@@ -46,3 +47,4 @@ pub record Sized (d : Described) : Type 0 where
   pub strakes-few : d .wall .count ≤ 24
   pub start-near : d .depths .start ≤ 1024
   pub depths-few : d .depths .count ≤ 1024
+  pub headroom-small : d .headroom < 4294967296

@@ -1,6 +1,6 @@
 -- A magnifier as the program holds it.
 use Prim.Native.Nat.{_*_, _^_, _≤_, _<_}
-use Rattle.fraction.specs.Fraction.{Fraction, _⊘_}
+use Rattle.fraction.specs.Fraction.{Fraction}
 use Rattle.discharge.specs.declared.Magnifier.{Magnifier}
 
 abbrev pub held : Fraction → Magnifier

@@ -1,7 +1,7 @@
--- Each part is its callee's; h is the wall and the hopper together.
+-- Each part is its callee's; h is the wall below the grain's surface and the hopper together.
 use borrow.Author.Needs.{needs}
 use Prim.Native.Nat.{ℕ, _+_, _^_, _≤_}
-use mathlib.Core.Path.{_∙_, ap}
+use mathlib.Core.Path.{_≡_, _∙_, ap, ap₂}
 use native.Mathlib.Omega.{arith}
 use Rattle.discharge.specs.Discharge.{horizontal-magnifier, friction-magnifier}
 use Rattle.discharge.specs.program.Magnifier.{held}
@@ -18,44 +18,45 @@ prepare-requires c κs = c .before .pre .range
 shorter-side-requires : tie.Need-shorter-side-requires
 shorter-side-requires c κs = search needs
 
-height-small : (c : Silo) → Fits c → c .foot + c .height ≤ 2 ^ 18
-unfolding load-depth
-height-small c fits = omega (arith, fits .foot-reached .wall, fits .height-most)
+load-depth-requires : tie.Need-load-depth-requires
+load-depth-requires c κs = search needs
+
+height-small : (c : Silo) → Fits c → {at : ℕ} → at ≡ load-depth c (c .foot) → at + c .height ≤ 2 ^ 18
+height-small c fits e = omega (arith, e, fits .foot-reached .wall, fits .height-most)
 
 add-h : tie.Need-add-h
 add-h c =
-    let start = c .before .before .before .before in
-    omega (arith, height-small (start .args .silo) (start .pre))
+    let start = c .before .before .before .before .before in
+    omega (arith, height-small (start .args .silo) (start .pre) (c .before .load-depth .ensures))
 
 horizontal-magnifier-requires : tie.Need-horizontal-magnifier-requires
 horizontal-magnifier-requires c κs =
-    let start = c .before .before .before .before in
+    let start = c .before .before .before .before .before in
     let silo = start .args .silo in
     let fits = start .pre in (
       fits .factor-in .least,
       fits .factor-in .most,
-      height-small silo fits,
-      omega (arith, c .before .shorter-side .ensures .0, dc-most silo fits),
+      height-small silo fits (c .before .load-depth .ensures),
+      omega (arith, c .before .before .shorter-side .ensures .0, dc-most silo fits),
     )
 
 friction-magnifier-requires : tie.Need-friction-magnifier-requires
 friction-magnifier-requires c κs =
-    let start = c .before .before .before .before .before in
+    let start = c .before .before .before .before .before .before in
     let silo = start .args .silo in
     let fits = start .pre in (
-      height-small silo fits,
-      omega (arith, c .before .before .shorter-side .ensures .0, dc-most silo fits),
+      height-small silo fits (c .before .before .load-depth .ensures),
+      omega (arith, c .before .before .before .shorter-side .ensures .0, dc-most silo fits),
     )
 
 returns : tie.Need-returns
-unfolding load-depth
 returns c =
-    let width = c .before .before .before in
+    let width = c .before .before .before .before in
     let silo = width .before .before .before .args .silo in
-    let h : ℕ = silo .foot + silo .height in
+    let h = ap (λ (z : ℕ). z + silo .height) (c .before .before .before .load-depth .ensures) in
     let shorter = width .shorter-side .ensures .0 in
-    let c-h = c .before .horizontal-magnifier .ensures ∙ ap (λ (d : ℕ). held (horizontal-magnifier (silo .product .factor) h d)) shorter in
-    let c-w = c .friction-magnifier .ensures ∙ ap (λ (d : ℕ). held (friction-magnifier h d)) shorter in
+    let c-h = c .before .horizontal-magnifier .ensures ∙ ap₂ (λ (h d : ℕ). held (horizontal-magnifier (silo .product .factor) h d)) h shorter in
+    let c-w = c .friction-magnifier .ensures ∙ ap₂ (λ (h d : ℕ). held (friction-magnifier h d)) h shorter in
     λ i. record {
       silo = silo;
       prepared = width .before .prepare .ensures i;
@@ -70,6 +71,7 @@ basis-of-spec =
     (tie.spec
     prepare-requires
     shorter-side-requires
+    load-depth-requires
     add-h
     horizontal-magnifier-requires
     friction-magnifier-requires

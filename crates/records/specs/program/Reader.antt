@@ -14,7 +14,7 @@ pub record Stands (s : List ℕ) (at : ℕ) (f : Record) : Type 0 where
   pub sized : f .length ≡ u16 s at
   pub small : f .length < 65536
 
--- the places where the six records begin, and where the last ends: at the end of the sheet
+-- the places where the first six records begin, and where the sixth ends: there the sheet ends, or the seventh begins
 pub record Located (s places : List ℕ) : Type 0 where
   pub located : (k : ℕ) → k ≤ 6 → getD places k 0 ≡ place s k
-  pub ends : place s 6 ≡ length s
+  pub inside : place s 6 ≤ length s

@@ -1,7 +1,6 @@
 -- The rules of the silo described are those of the sheet (`described-judged`).
-use mathlib.Core.Path.{_≡_, sym, _∙_, ap}
+use mathlib.Core.Path.{_∙_, ap}
 use denote.Ref.{now}
-use borrow.Author.Needs.{needs}
 use Rattle.records.specs.Rules.{first-unmet}
 use Rattle.description.specs.declared.Described.{Described}
 use Rattle.description.specs.Silo.{depths-of}

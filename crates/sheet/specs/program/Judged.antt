@@ -1,5 +1,5 @@
 -- The rules of a sheet's values, as the program tries them on the silo described.
-use Prim.Native.Nat.{ℕ, _+_, _*_}
+use Prim.Native.Nat.{ℕ, _+_, _-_, _*_}
 use mathlib.Core.Bool.{_||_}
 use mathlib.Core.List.{List, [], _∷_}
 use lib.Dec.{ltb}
@@ -17,5 +17,6 @@ described-rules d depths =
     ∷ 9 unless (flat (d .bottom) || hopper (d-c (d .section)) (d .bottom))
     ∷ 10 unless strakes-met (take (d .wall .count) (d .wall .heights))
     ∷ 11 unless depths-met (d .wall .foot) 0 depths
-    ∷ 12 unless ltb (d .wall .foot + d .bottom .height) (10 * d-c (d .section))
+    ∷ 17 unless ltb (d .headroom) (d .wall .foot)
+    ∷ 12 unless ltb (d .wall .foot - d .headroom + d .bottom .height) (10 * d-c (d .section))
     ∷ []

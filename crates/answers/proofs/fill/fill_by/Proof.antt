@@ -1,14 +1,11 @@
 -- `answers::fill::fill_by` meets its contract: what each call asks holds of an accepted sheet, of its basis and of its wall, and the three
 -- parts that the calls store are the answer list (`whole-list`).
 -- Assumes nothing.
-use mathlib.Core.Path.{_≡_, refl, sym, _∙_, ap, subst}
+use mathlib.Core.Path.{_≡_, refl, _∙_, ap}
 use borrow.Author.Needs.{needs}
 use native.Mathlib.Omega.{arith}
 use lib.ListN.{length}
 use Rattle.description.specs.declared.Described.{Described}
-use Rattle.sheet.proofs.Acceptance.{accepted}
-use Rattle.loads.specs.program.Basis.{Fits}
-use Rattle.answers.specs.program.Fill.{silo-in}
 use Rattle.answers.proofs.Whole.{room, whole-list, fits-described, basis-described, basis-sound, strakes-few, depths-near, described-wall, wall-reached}
 use Rattle.answers.proofs.fill.fill_by.Statement.{statement}
 use Rattle.answers.proofs.fill.fill_by.Tie as tie
@@ -73,8 +70,9 @@ fill-strakes-requires c κs =
       rw basis (basis-sound s h),
       omega (arith, wall .0, strakes-few s h),
       wall .1,
-      rw (basis, wall .2) (wall-reached s h),
+      rw (basis, wall .2) (wall-reached s h .0),
       omega (arith, has, ap (λ (d : Described). d .depths .count) (start .pre .2), kept, kept', wall .0),
+      rw (wall .2) (wall-reached s h .1),
     )
 
 same-length : tie.Need-same-length

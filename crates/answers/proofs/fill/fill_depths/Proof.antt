@@ -57,6 +57,7 @@ depth-numbers-requires c κs =
       pre .0,
       rw (pre .3) (basis-sound s (pre .1)),
       rw (pre .3, c .four-bytes .ensures .0, depth-read s (l .i) (l .at) i (l .inv .3)) (depth-reached s (accepted s (pre .1)) (l .i) i),
+      c .four-bytes .ensures .1,
     )
 
 mul-store : tie.Need-mul-store Inv-loop μ-loop

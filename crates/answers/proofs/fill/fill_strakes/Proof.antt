@@ -12,7 +12,6 @@ use lib.Seq.{sets, length-take-le}
 use Rattle.description.specs.declared.WallState.{WallState}
 use Rattle.description.specs.program.Wall.{wall-top, wall-lowered, wall-after}
 use Rattle.description.proofs.Walls.{passed-after}
-use Rattle.loads.specs.Load.{load-depth}
 use Rattle.answers.specs.program.Fill.{each, at-strake, strake-numbers}
 use Rattle.answers.proofs.Stores.{each-next, each-done}
 use Rattle.answers.proofs.Edges.{above-foot, next-edge, next-inside, next-state}
@@ -47,7 +46,7 @@ element-copy-out-lowered : tie.Need-element-copy-out-lowered Inv-loop μ-loop
 element-copy-out-lowered c = search needs
 
 lowered-requires : tie.Need-lowered-requires Inv-loop μ-loop
-unfolding load-depth wall-lowered
+unfolding wall-lowered
 lowered-requires c κs =
     let l = c .before .before .before .loop in
     let start = c .before .before .before .before .before .before in
@@ -57,7 +56,7 @@ lowered-requires c κs =
     let fits : a .count ≤ length (a .heights .now) = omega (arith, start .pre) in
     let e : l .state .edge + getD (a .heights .now) k 0 ≡ wall-after (a .heights .now) (suc k) .edge =
     ap (λ (t : WallState). t .edge) (next-state (a .heights .now) (a .count) k test fits (l .inv .2)) in
-    (omega (arith, test, start .pre), omega (arith, e, next-inside (a .heights .now) (a .count) k test fits, start .pre .4 .wall))
+    (omega (arith, test, start .pre), omega (arith, e, next-inside (a .heights .now) (a .count) k test fits, start .pre .6))
 
 strake-number-requires : tie.Need-strake-number-requires Inv-loop μ-loop
 strake-number-requires c κs =

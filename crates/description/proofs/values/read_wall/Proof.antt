@@ -1,6 +1,5 @@
 -- The invariant: what the places hold, with the strakes left put in from i on, is the whole wall; the sum so far and that of the strakes
 -- left make V.
-use mathlib.Core.List.{List}
 use native.Mathlib.Numerals.{add-one}
 use lib.Seq.{sets}
 use lib.ListN.{length, replicate, length-set}
@@ -8,12 +7,11 @@ use denote.Ref.{now}
 use Rattle.description.proofs.Walls.{heights-filled}
 use Rattle.records.proofs.Records.{payload-between}
 use Rattle.records.proofs.Numbers.{numbers-start, numbers-next, numbers-end}
-use Rattle.records.specs.Format.{u16, numbers, payload, payload-length}
+use Rattle.records.specs.Format.{u16, numbers, payload}
 use Prim.Native.Nat.{ℕ, _+_, _*_, _/_, _-_, _≤_}
 use mathlib.Core.Path.{_≡_, refl, _∙_, ap, sym}
 use Rattle.description.specs.Silo.{V-of, strakes-of, strake-count, sum}
 use Rattle.description.specs.program.Described.{wall-of}
-use borrow.Author.Needs.{needs}
 use native.Mathlib.Omega.{arith}
 use Rattle.description.proofs.values.read_wall.Statement.{statement}
 use Rattle.description.proofs.values.read_wall.Tie as tie

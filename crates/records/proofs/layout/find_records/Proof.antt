@@ -1,5 +1,4 @@
 -- Each return rewrites with the test that led there.
-use mathlib.Core.Path.{_≡_}
 use Rattle.records.specs.Rules.{first-unmet}
 use Rattle.records.specs.Format.{layout-rules}
 use Rattle.records.proofs.Tests.{absurd}

@@ -1,8 +1,7 @@
 -- By the kind; a kind of one length by its law.
-use mathlib.Core.Path.{refl, sym, _∙_, ap}
-use Prim.Native.Nat.{ℕ}
+use mathlib.Core.Path.{refl, sym}
 use Rattle.records.specs.Format.{allowed}
-use Rattle.records.proofs.Records.{circle-length, product-length, pair-length}
+use Rattle.records.proofs.Records.{circle-length, product-length, headroom-length, pair-length}
 use Rattle.records.proofs.rules.length_allowed.Statement.{statement}
 use Rattle.records.proofs.rules.length_allowed.Tie as tie
 
@@ -21,10 +20,13 @@ unfolding allowed
 returns-4 c = rw (c .match .keys4) refl
 
 returns-5 : tie.Need-returns-5
-returns-5 c =
+returns-5 c = rw (c .match .keys5) (sym (headroom-length (c .before .args .length)))
+
+returns-6 : tie.Need-returns-6
+returns-6 c =
     let start = c .before in
     let other = c .match .rest in
-    sym (pair-length (start .args .kind) (start .args .length) (start .pre .0) (start .pre .1) (other .0 .0 .0 .1) (other .0 .0 .1) (other .0 .1) (other .1))
+    sym (pair-length (start .args .kind) (start .args .length) (start .pre .0) (start .pre .1) (other .0 .0 .0 .0 .1) (other .0 .0 .0 .1) (other .0 .0 .1) (other .0 .1) (other .1))
 
 pub length-allowed-spec : {M : Type 1} → statement M
-length-allowed-spec = tie.close (tie.spec returns returns-2 returns-3 returns-4 returns-5)
+length-allowed-spec = tie.close (tie.spec returns returns-2 returns-3 returns-4 returns-5 returns-6)

@@ -1,13 +1,14 @@
 -- The rules tried one after the other: where those up to a rule are met, what is due is the first refusal of those behind it (`met-6` ..),
 -- and a rule that is not met is the answer.
-use Prim.Native.Nat.{ℕ, _+_, _*_}
-use mathlib.Core.Bool.{Bool, _||_}
+use Prim.Native.Nat.{ℕ, _+_, _-_, _*_}
+use mathlib.Core.Bool.{Bool, true, _||_}
 use mathlib.Core.List.{List}
 use mathlib.Core.Path.{_≡_, sym, _∙_, ap, ap₂}
+use native.Mathlib.Omega.{arith}
 use lib.Dec.{ltb}
 use lib.ListN.{drop}
 use borrow.Author.Needs.{needs}
-use borrow.Author.Tests.{not-true, not-false}
+use borrow.Author.Tests.{ltb-true, not-true, not-false}
 use Rattle.records.specs.Rules.{Rule, first-unmet}
 use Rattle.records.proofs.Chain.{next, last}
 use Rattle.description.specs.Silo.{depths-of}
@@ -25,6 +26,7 @@ use Rattle.sheet.proofs.rules.is_flat.Reads as is-flat-reads
 use Rattle.sheet.proofs.rules.is_hopper.Reads as is-hopper-reads
 use Rattle.sheet.proofs.rules.strakes_met.Reads as strakes-met-reads
 use Rattle.sheet.proofs.rules.depths_met.Reads as depths-met-reads
+use Rattle.sheet.proofs.rules.headroom_met.Reads as headroom-met-reads
 use Rattle.sheet.proofs.rules.height_met.Reads as height-met-reads
 
 -- a test of d_c, made with the number that was worked out for it
@@ -32,7 +34,7 @@ of-width : (test : ℕ → Bool) {n dc : ℕ} {b : Bool} → n ≡ dc → test n
 of-width test e h = sym (ap test e) ∙ h
 
 abbrev calls : lts.Claims
-calls = (sides-met-reads.Asked, sides-met-reads.Learnt, product-met-reads.Asked, product-met-reads.Learnt, shorter-side-reads.Asked, shorter-side-reads.Learnt, eccentricities-met-reads.Asked, eccentricities-met-reads.Learnt, is-flat-reads.Asked, is-flat-reads.Learnt, is-hopper-reads.Asked, is-hopper-reads.Learnt, strakes-met-reads.Asked, strakes-met-reads.Learnt, depths-met-reads.Asked, depths-met-reads.Learnt, height-met-reads.Asked, height-met-reads.Learnt)
+calls = (sides-met-reads.Asked, sides-met-reads.Learnt, product-met-reads.Asked, product-met-reads.Learnt, shorter-side-reads.Asked, shorter-side-reads.Learnt, eccentricities-met-reads.Asked, eccentricities-met-reads.Learnt, is-flat-reads.Asked, is-flat-reads.Learnt, is-hopper-reads.Asked, is-hopper-reads.Learnt, strakes-met-reads.Asked, strakes-met-reads.Learnt, depths-met-reads.Asked, depths-met-reads.Learnt, headroom-met-reads.Asked, headroom-met-reads.Learnt, height-met-reads.Asked, height-met-reads.Learnt)
 
 abbrev Start : Type 0
 Start = lts.Start calls reads.Pre reads.Post
@@ -59,8 +61,11 @@ Met10 = lts.Else5 calls reads.Pre reads.Post
 abbrev Met11 : Type 0
 Met11 = lts.Else6 calls reads.Pre reads.Post
 
+abbrev Met17 : Type 0
+Met17 = lts.Else7 calls reads.Pre reads.Post
+
 abbrev Met12 : Type 0
-Met12 = lts.Else7 calls reads.Pre reads.Post
+Met12 = lts.Else8 calls reads.Pre reads.Post
 
 abbrev back-7 : Met7 → Met6
 back-7 x = x .before .before .before
@@ -77,7 +82,10 @@ back-10 x = x .before .before .before .before
 abbrev back-11 : Met11 → Met10
 back-11 x = x .before .before .before
 
-abbrev back-12 : Met12 → Met11
+abbrev back-17 : Met17 → Met11
+back-17 x = x .before .before
+
+abbrev back-12 : Met12 → Met17
 back-12 x = x .before .before .before
 
 abbrev start-6 : Met6 → Start
@@ -98,8 +106,11 @@ start-10 x = start-9 (back-10 x)
 abbrev start-11 : Met11 → Start
 start-11 x = start-10 (back-11 x)
 
+abbrev start-17 : Met17 → Start
+start-17 x = start-11 (back-17 x)
+
 abbrev start-12 : Met12 → Start
-start-12 x = start-11 (back-12 x)
+start-12 x = start-17 (back-12 x)
 
 -- then what is due is the first refusal of the rules behind
 met-6 : (x : Met6) → first-unmet (rules (start-6 x)) ≡ first-unmet (drop 1 (rules (start-6 x)))
@@ -127,10 +138,19 @@ met-11 : (x : Met11) → first-unmet (rules (start-11 x)) ≡ first-unmet (drop 
 unfolding described-rules
 met-11 x = met-10 (back-11 x) ∙ next (rules (start-11 x)) 5 (sym (x .before .depths-met .ensures) ∙ not-false _ (x .if6 .left))
 
-met-12 : (x : Met12) → first-unmet (rules (start-12 x)) ≡ first-unmet (drop 7 (rules (start-12 x)))
+headroom-right : (x : Met17) → ltb (start-17 x .args .t2 .headroom) (start-17 x .args .t2 .wall .foot) ≡ true
+headroom-right x = sym (x .before .headroom-met .ensures) ∙ not-false _ (x .if7 .left)
+
+met-17 : (x : Met17) → first-unmet (rules (start-17 x)) ≡ first-unmet (drop 7 (rules (start-17 x)))
 unfolding described-rules
-met-12 x = met-11 (back-12 x) ∙ next (rules (start-12 x)) 6 (of-width (λ (n : ℕ). ltb (start-12 x .args .t2 .wall .foot + start-12 x .args .t2 .bottom .height) (10 * n)) ((back-9 (back-10 (back-11 (back-12 x)))) .before .before .before .shorter-side .ensures .0)
-    (sym (x .before .height-met .ensures) ∙ not-false _ (x .if7 .left)))
+met-17 x = met-11 (back-17 x) ∙ next (rules (start-17 x)) 6 (headroom-right x)
+
+met-12 : (x : Met12) → first-unmet (rules (start-12 x)) ≡ first-unmet (drop 8 (rules (start-12 x)))
+unfolding described-rules
+met-12 x =
+    let d = start-12 x .args .t2 in
+    met-17 (back-12 x) ∙ next (rules (start-12 x)) 7 (of-width (λ (n : ℕ). ltb (d .wall .foot - d .headroom + d .bottom .height) (10 * n)) ((back-9 (back-10 (back-11 (back-17 (back-12 x))))) .before .before .before .shorter-side .ensures .0)
+    (sym (x .before .height-met .ensures) ∙ not-false _ (x .if8 .left)))
 
 sides-met-requires : tie.Need-sides-met-requires
 sides-met-requires c κs = search needs
@@ -193,23 +213,37 @@ returns-6 c =
     let before = c .before .before .before in
     sym (met-10 before ∙ last (rules (start-10 before)) 5 (sym (c .before .depths-met .ensures) ∙ not-true _ (c .if6 .taken)))
 
+headroom-met-requires : tie.Need-headroom-met-requires
+headroom-met-requires c κs = search needs
+
+returns-7 : tie.Need-returns-7
+unfolding described-rules
+returns-7 c =
+    let before = c .before .before in
+    sym (met-11 before ∙ last (rules (start-11 before)) 6 (sym (c .before .headroom-met .ensures) ∙ not-true _ (c .if7 .taken)))
+
+sub-height-met : tie.Need-sub-height-met
+sub-height-met c =
+    let d = start-17 c .args .t2 in
+    omega (arith, ltb-true (d .headroom) (d .wall .foot) (headroom-right c))
+
 add-height-met : tie.Need-add-height-met
 add-height-met c = search needs
 
 height-met-requires : tie.Need-height-met-requires
 height-met-requires c κs = search needs
 
-returns-7 : tie.Need-returns-7
-unfolding described-rules
-returns-7 c =
-    let before = c .before .before .before in
-    let d = start-11 before .args .t2 in
-    sym (met-11 before ∙ last (rules (start-11 before)) 6 (of-width (λ (n : ℕ). ltb (d .wall .foot + d .bottom .height) (10 * n)) ((back-9 (back-10 (back-11 before))) .before .before .before .shorter-side .ensures .0)
-    (sym (c .before .height-met .ensures) ∙ not-true _ (c .if7 .taken))))
-
 returns-8 : tie.Need-returns-8
+unfolding described-rules
+returns-8 c =
+    let before = c .before .before .before in
+    let d = start-17 before .args .t2 in
+    sym (met-17 before ∙ last (rules (start-17 before)) 7 (of-width (λ (n : ℕ). ltb (d .wall .foot - d .headroom + d .bottom .height) (10 * n)) ((back-9 (back-10 (back-11 (back-17 before)))) .before .before .before .shorter-side .ensures .0)
+    (sym (c .before .height-met .ensures) ∙ not-true _ (c .if8 .taken))))
+
+returns-9 : tie.Need-returns-9
 unfolding described-rules first-unmet
-returns-8 c = sym (met-12 c)
+returns-9 c = sym (met-12 c)
 
 pub values-refusal-spec : {M : Type 1} → statement M
 values-refusal-spec =
@@ -229,7 +263,10 @@ values-refusal-spec =
     returns-5
     depths-met-requires
     returns-6
+    headroom-met-requires
+    returns-7
+    sub-height-met
     add-height-met
     height-met-requires
-    returns-7
-    returns-8)
+    returns-8
+    returns-9)
