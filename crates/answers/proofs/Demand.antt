@@ -1,7 +1,7 @@
 -- Demand 3, whole: every list that holds each number in its place for an accepted sheet meets `Claim` (`claim`).
--- Acceptance puts section, product, factor and eccentricities inside their ranges and every depth used, listed or not, at most at
--- the wall's foot, which is less than ten widths below the grain's surface. There each number holds by its own law (`holds`, `rises`), and the order between
--- two lists is the order of the named pressures, which have nothing in them but section, product and depth.
+-- Acceptance puts section, product, factor and eccentricities inside their ranges and every depth used, listed or not, at most at the wall's foot,
+-- which is less than ten widths below the grain's surface. There each number holds by its own law (`holds`, `rises`, `rises-below`), and the order
+-- between two lists is the order of the named pressures, which have nothing in them but section, product and load depth.
 -- Assumes nothing.
 use Prim.Native.Nat.{ℕ, zero, suc, _+_, _-_, _≤_, _<_}
 use mathlib.Core.Path.{_≡_, refl, ap, sym, subst}
@@ -18,7 +18,7 @@ use Rattle.description.proofs.Sums.{sum-under}
 use Rattle.sheet.specs.Refusal.{refusal-of}
 use Rattle.sheet.specs.Accepted.{Layout, Accepted}
 use Rattle.sheet.proofs.Acceptance.{accepted}
-use Rattle.sheet.proofs.Described.{edge-most, V-most, V-below-ten, in-range, factor-in}
+use Rattle.sheet.proofs.Described.{edge-most, V-most, grain-below-ten, in-range, factor-in}
 use Rattle.loads.specs.declared.Silo.{Silo}
 use Rattle.loads.specs.Load.{Load}
 use Rattle.loads.specs.Load.{OfFilling, load-depth, full-height, number}
@@ -43,7 +43,7 @@ module _ (s : List ℕ) (a : Accepted s) where
   unfolding load-depth
   reached x h =
       record {
-        below-ten = omega (arith, V-below-ten s a);
+        below-ten = omega (arith, grain-below-ten s a);
         wall = omega (arith, V-most s a);
       }
 
@@ -107,7 +107,7 @@ module _ (s s' : List ℕ) (a : Accepted s) (a' : Accepted s') (e : SameSectionA
 
 -- p_he is not the listed depth
 p-he-load : p-he ≡ listed-depth → ⊥
-p-he-load e = let n : ℕ = rank p-he in omega (arith, ap rank e)
+p-he-load e = omega (arith, ap rank e)
 
 ordered-by : {x y n m : ℕ} → (x ≤ y → n ≤ m) → (y ≤ x → m ≤ n) → Ordered x y n m
 ordered-by up down = record { rises = up; falls = down; same = λ e. le-antisymm (up (omega arith)) (down (omega arith)) }

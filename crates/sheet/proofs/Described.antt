@@ -75,9 +75,9 @@ module _ (s : List ℕ) where
         omega arith
 
     -- the grain stands less than ten widths high at the wall
-    pub V-below-ten : V-of s - headroom-of s < 10 * d-c (section-of s)
+    pub grain-below-ten : V-of s - headroom-of s < 10 * d-c (section-of s)
     unfolding h-of
-    V-below-ten = let h = a .below-ten in omega arith
+    grain-below-ten = let h = a .below-ten in omega arith
 
     -- section and product as they are read
     pub in-range : InRange (section-of s) (product-of s)
