@@ -12,15 +12,15 @@ use lib.Dec.{eqb}
 use lib.ListN.{length, getD, set}
 use lib.Seq.{getD-set-same, getD-set-other}
 use Rattle.records.specs.Rules.{within, first-unmet}
-use Rattle.records.specs.Format.{u16, place, payload-length, due, allowed, record-rules, records-rules, record-count}
+use Rattle.records.specs.Format.{u16, place, payload-length, due, step-of, most-of, allowed, record-rules, records-rules, record-count}
 use Rattle.records.specs.program.Reader.{Stands}
 use Rattle.records.specs.declared.reader.Record.{Record}
 use Rattle.records.proofs.Tests.{absurd, both-true, either-true}
 use Rattle.records.proofs.Chain.{numbered, skipped, stopped}
 
--- a payload of m bytes and no more
-one-length : (m n : ℕ) → m % m ≡ 0 → (within m m n && eqb (n % m) 0) ≡ eqb n m
-one-length m n whole = at-least (decLe m n)
+-- m bytes and no more
+exactly : (m n : ℕ) → m % m ≡ 0 → (within m m n && eqb (n % m) 0) ≡ eqb n m
+exactly m n whole = at-least (decLe m n)
   where
     at-most : m ≤ n → Dec (n ≤ m) → (within m m n && eqb (n % m) 0) ≡ eqb n m
     at-most l (yes h) = let e : n ≡ m = omega (arith, l, h) in rw e (simp (le-leb m m (omega arith), eq-eqb (m % m) 0 whole, eq-eqb m m refl))
@@ -30,27 +30,19 @@ one-length m n whole = at-least (decLe m n)
     at-least (yes l) = at-most l (decLe n m)
     at-least (no l) = simp (lt-leb m n (omega (arith, l)), ne-eqb n m (λ e. l (omega (arith, e))))
 
-pub circle-length : (n : ℕ) → allowed 1 n ≡ eqb n 4
+-- a kind of one length alone
+pub one-length : (t m n : ℕ) → step-of t ≡ m → most-of t ≡ m → m % m ≡ 0 → allowed t n ≡ eqb n m
 unfolding allowed
-circle-length n = one-length 4 n refl
-
-pub product-length : (n : ℕ) → allowed 3 n ≡ eqb n 10
-unfolding allowed
-product-length n = one-length 10 n refl
-
-pub headroom-length : (n : ℕ) → allowed 8 n ≡ eqb n 4
-unfolding allowed
-headroom-length n = one-length 4 n refl
+one-length t m n a b whole = rw (a, b) (exactly m n whole)
 
 -- the kinds of two numbers of four bytes: a rectangle, the eccentricities, the bottom
 pub pair-length : (t n : ℕ) → 0 < t → t < 9 → (t ≡ 1 → ⊥) → (t ≡ 3 → ⊥) → (t ≡ 6 → ⊥) → (t ≡ 7 → ⊥) → (t ≡ 8 → ⊥) → allowed t n ≡ eqb n 8
-unfolding allowed
 pair-length zero n p l a b c d e = absurd (omega arith)
 pair-length (suc zero) n p l a b c d e = absurd (a refl)
-pair-length (suc (suc zero)) n p l a b c d e = one-length 8 n refl
+pair-length (suc (suc zero)) n p l a b c d e = one-length 2 8 n refl refl refl
 pair-length (suc (suc (suc zero))) n p l a b c d e = absurd (b refl)
-pair-length (suc (suc (suc (suc zero)))) n p l a b c d e = one-length 8 n refl
-pair-length (suc (suc (suc (suc (suc zero))))) n p l a b c d e = one-length 8 n refl
+pair-length (suc (suc (suc (suc zero)))) n p l a b c d e = one-length 4 8 n refl refl refl
+pair-length (suc (suc (suc (suc (suc zero))))) n p l a b c d e = one-length 5 8 n refl refl refl
 pair-length (suc (suc (suc (suc (suc (suc zero)))))) n p l a b c d e = absurd (c refl)
 pair-length (suc (suc (suc (suc (suc (suc (suc zero))))))) n p l a b c d e = absurd (d refl)
 pair-length (suc (suc (suc (suc (suc (suc (suc (suc zero)))))))) n p l a b c d e = absurd (e refl)

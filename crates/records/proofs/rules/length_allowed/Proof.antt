@@ -1,15 +1,15 @@
 -- By the kind; a kind of one length by its law.
 use mathlib.Core.Path.{refl, sym}
 use Rattle.records.specs.Format.{allowed}
-use Rattle.records.proofs.Records.{circle-length, product-length, headroom-length, pair-length}
+use Rattle.records.proofs.Records.{one-length, pair-length}
 use Rattle.records.proofs.rules.length_allowed.Statement.{statement}
 use Rattle.records.proofs.rules.length_allowed.Tie as tie
 
 returns : tie.Need-returns
-returns c = rw (c .match .keys1) (sym (circle-length (c .before .args .length)))
+returns c = rw (c .match .keys1) (sym (one-length 1 4 (c .before .args .length) refl refl refl))
 
 returns-2 : tie.Need-returns-2
-returns-2 c = rw (c .match .keys2) (sym (product-length (c .before .args .length)))
+returns-2 c = rw (c .match .keys2) (sym (one-length 3 10 (c .before .args .length) refl refl refl))
 
 returns-3 : tie.Need-returns-3
 unfolding allowed
@@ -20,7 +20,7 @@ unfolding allowed
 returns-4 c = rw (c .match .keys4) refl
 
 returns-5 : tie.Need-returns-5
-returns-5 c = rw (c .match .keys5) (sym (headroom-length (c .before .args .length)))
+returns-5 c = rw (c .match .keys5) (sym (one-length 8 4 (c .before .args .length) refl refl refl))
 
 returns-6 : tie.Need-returns-6
 returns-6 c =
