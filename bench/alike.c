@@ -1,9 +1,10 @@
 /* alike [SHEETS [SEED]]: makes the load call and the length call of the library and of an earlier one, whose names begin with before_, on
  * at least so many sheets, 8,000,000 where nothing is said: sheets of random silos inside and around every limit, the same damaged, random
  * bytes. Both have to answer alike and leave alike lists, of the length due and of one less and one more, with all as it was where a call
- * is refused. Where the earlier library is from before C-13, sheets that go on behind their sixth record are not among these: it answers 5
- * to them, and the library's length call is compared with the reading of bench/sheet.c. Prints the counts. Status 1: a difference, with the
- * sheet in hexadecimal; or a refusal that was never reached. */
+ * is refused. Where the earlier library is from before C-14, the library's answer to a blank factor is compared with the earlier one's to
+ * 155 written in, and the library's to 135 written in with the earlier one's to a blank factor. Where it is from before C-13, sheets that go
+ * on behind their sixth record are not among these: it answers 5 to them, and the library's length call is compared with the reading of
+ * bench/sheet.c. Prints the counts. Status 1: a difference, with the library's sheet in hexadecimal; or a refusal that was never reached. */
 #include "before.h"
 #include "sheet.h"
 #include "silo.h"
@@ -41,8 +42,8 @@ struct bytes {
     size_t length;
 };
 
-static bool no_headroom_before;
-static uint64_t state, sheets, accepted, read_here, refused[GREATEST + 1];
+static bool no_headroom_before, blank_is_135_before;
+static uint64_t state, sheets, accepted, read_here, blank, blank_accepted, refused[GREATEST + 1];
 static uint32_t before[LIST], after[LIST], untouched[LIST];
 
 /* Numbers that are the same on every run (splitmix64). */
@@ -279,10 +280,11 @@ static void differ(const struct bytes *sheet, const char *call, uint64_t due, ui
     exit(1);
 }
 
-/* The load call with a list of that length: both give that answer and the same list, and write to no more of it than they may. */
-static void compare_loads(const struct bytes *sheet, size_t list, uint32_t due) {
+/* The load call with a list of that length: both give that answer and the same list, and write to no more of it than they may. Here and
+ * below the earlier library is lent the first sheet, the library the other. */
+static void compare_loads(const struct bytes *earlier_sheet, const struct bytes *sheet, size_t list, uint32_t due) {
     size_t filled = GUARDS + (due == 0 ? list : 0);
-    uint32_t earlier = before_loads(sheet->at, sheet->length, before + GUARDS, list);
+    uint32_t earlier = before_loads(earlier_sheet->at, earlier_sheet->length, before + GUARDS, list);
     uint32_t answer = silo_loads(sheet->at, sheet->length, after + GUARDS, list);
     bool same = earlier == due && answer == due && memcmp(before, after, sizeof after) == 0;
     bool guarded = memcmp(after, untouched, GUARDS * sizeof *after) == 0;
@@ -295,31 +297,59 @@ static void compare_loads(const struct bytes *sheet, size_t list, uint32_t due) 
 }
 
 /* The load call with lists of the length due and of one less and one more; a refused sheet is lent lists round the given length. */
-static void compare_lists(const struct bytes *sheet, size_t list, uint64_t answer) {
+static void compare_lists(const struct bytes *earlier_sheet, const struct bytes *sheet, size_t list, uint64_t answer) {
     bool fits = answer >= SILO_LENGTH_MARK;
     if (fits)
         list = (size_t)(answer - SILO_LENGTH_MARK);
-    compare_loads(sheet, list - 1, fits ? WRONG_LENGTH : (uint32_t)answer);
-    compare_loads(sheet, list, fits ? 0 : (uint32_t)answer);
-    compare_loads(sheet, list + 1, fits ? WRONG_LENGTH : (uint32_t)answer);
+    compare_loads(earlier_sheet, sheet, list - 1, fits ? WRONG_LENGTH : (uint32_t)answer);
+    compare_loads(earlier_sheet, sheet, list, fits ? 0 : (uint32_t)answer);
+    compare_loads(earlier_sheet, sheet, list + 1, fits ? WRONG_LENGTH : (uint32_t)answer);
     refused[WRONG_LENGTH] += fits ? 2 : 0;
 }
 
 /* Both calls; the length call alone where the earlier one takes what follows the sixth record for bytes left over. */
-static void compare(const struct bytes *sheet, size_t list) {
-    uint64_t earlier = before_answers_length(sheet->at, sheet->length), answer = silo_answers_length(sheet->at, sheet->length);
+static void compare_sheets(const struct bytes *earlier_sheet, const struct bytes *sheet, size_t list) {
+    uint64_t earlier = before_answers_length(earlier_sheet->at, earlier_sheet->length);
+    uint64_t answer = silo_answers_length(sheet->at, sheet->length);
     bool fits = answer >= SILO_LENGTH_MARK, behind = no_headroom_before && earlier == LEFT_OVER;
     uint64_t due = behind ? read_length(sheet->at, sheet->length) : earlier;
     if (answer != due || (!fits && answer > GREATEST) || (fits && answer - SILO_LENGTH_MARK > MAX_ANSWERS))
         differ(sheet, "silo_answers_length", due, answer);
     if (!behind)
-        compare_lists(sheet, list, answer);
+        compare_lists(earlier_sheet, sheet, list, answer);
     sheets++;
     read_here += behind;
     if (fits)
         accepted++;
     else
         refused[answer]++;
+}
+
+/* Where a blank factor stands, if the second record is a product's and lies whole inside the sheet; else 0. */
+static size_t blank_factor(const struct bytes *sheet) {
+    static const uint8_t header[] = {10, 0, 3, 0}, none[] = {0, 0};
+    size_t product = 4 + (size_t)(sheet->at[0] | sheet->at[1] << 8), factor = product + 12;
+    if (sheet->length < 2 || factor + 2 > sheet->length || memcmp(sheet->at + product, header, sizeof header) != 0)
+        return 0;
+    return memcmp(sheet->at + factor, none, sizeof none) == 0 ? factor : 0;
+}
+
+/* A sheet as it is; where its factor is blank and the earlier library reads that as 135, with the meaning written in for either. */
+static void compare(const struct bytes *sheet, size_t list) {
+    static struct bytes written;
+    size_t factor = blank_is_135_before ? blank_factor(sheet) : 0;
+    if (factor == 0) {
+        compare_sheets(sheet, sheet, list);
+        return;
+    }
+    uint64_t accepted_before = accepted;
+    written = *sheet;
+    put(written.at + factor, BLANK, 2);
+    compare_sheets(&written, sheet, list);
+    blank++;
+    blank_accepted += accepted - accepted_before;
+    put(written.at + factor, BLANK_BEFORE, 2);
+    compare_sheets(sheet, &written, list);
 }
 
 /* A silo inside the limits or at one, the same damaged, and random bytes. */
@@ -351,6 +381,9 @@ static void print_counts(void) {
     for (int i = 0; i < REFUSAL_COUNT - 1; i++)
         printf(" %d: %" PRIu64 ",", REFUSALS[i], refused[REFUSALS[i]]);
     printf(" and %" PRIu64 " lists of a wrong length (14); no difference\n", refused[WRONG_LENGTH]);
+    if (blank_is_135_before)
+        printf("%" PRIu64 " of them are blank, %" PRIu64 " accepted: with 155 before; as many more with 135, blank before\n", blank,
+               blank_accepted);
     if (no_headroom_before)
         printf("%" PRIu64 " of them go on behind the sixth record: 5 before, now as bench/sheet.c reads them\n", read_here);
 }
@@ -361,6 +394,7 @@ int main(int argc, char **argv) {
     for (int i = 0; i < LIST; i++)
         before[i] = after[i] = untouched[i] = UINT32_C(0xA5C35A3C);
     no_headroom_before = knows_no_headroom();
+    blank_is_135_before = reads_blank_as_135();
     while (sheets - read_here < least)
         compare_round();
     print_counts();

@@ -4,6 +4,7 @@
 
 #include "sheet.h"
 #include <stdbool.h>
+#include <string.h>
 
 uint32_t before_loads(const uint8_t *sheet, size_t sheet_len, uint32_t *answers, size_t answers_len);
 uint64_t before_answers_length(const uint8_t *sheet, size_t sheet_len);
@@ -15,6 +16,21 @@ static inline bool knows_no_headroom(void) {
     struct silo s = under_headroom(1, 1);
     struct sheet sheet = sheet_of(&s);
     return before_answers_length(sheet.bytes, sheet.length) == LEFT_OVER;
+}
+
+/* What a blank factor means, and what it meant before C-14. */
+enum { BLANK = 155, BLANK_BEFORE = 135 };
+
+/* Whether the earlier library is from before C-14: a blank factor has the list of 135 written in. */
+static inline bool reads_blank_as_135(void) {
+    uint32_t lists[2][MAX_ANSWERS] = {{0}};
+    for (int i = 0; i < 2; i++) {
+        struct silo s = tower(1, MAX_STRAKES);
+        s.factor = i == 0 ? 0 : BLANK_BEFORE;
+        struct sheet sheet = sheet_of(&s);
+        before_loads(sheet.bytes, sheet.length, lists[i], sheet.list);
+    }
+    return memcmp(lists[0], lists[1], sizeof lists[0]) == 0;
 }
 
 #endif

@@ -119,7 +119,7 @@ uint32_t read_sheet(const uint8_t *sheet, size_t length, struct silo *s) {
     read_numbers(payloads, s);
     refusal = judge(s);
     if (s->factor == 0)
-        s->factor = 135;
+        s->factor = 155;
     return refusal;
 }
 

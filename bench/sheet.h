@@ -16,7 +16,7 @@ struct silo {
     uint32_t strakes[MAX_STRAKES], depths[MAX_DEPTHS];
 };
 
-/* The refusal, 1 to 12 or 17, or 0 with the silo's numbers, a factor of 0 read as 135. */
+/* The refusal, 1 to 12 or 17, or 0 with the silo's numbers, a factor of 0 read as 155. */
 uint32_t read_sheet(const uint8_t *sheet, size_t length, struct silo *s);
 
 /* The same with refusal 14 as well, for a list of that length. */

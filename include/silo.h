@@ -5,7 +5,8 @@
  *
  *   kind 1  circle     u32 diameter d (mm)                          or
  *   kind 2  rectangle  u32 side a, u32 side b (mm)
- *   kind 3  product    u32 weight (N/m3); u16 mean ratio Ks, u16 mean friction mu, u16 factor C0 (hundredths; C0 = 0 is 135)
+ *   kind 3  product    u32 weight (N/m3); u16 mean ratio Ks, u16 mean friction mu, u16 factor C0 (hundredths; C0 = 0 is 155, by
+ *                      equation 7.4 at an internal friction angle of 40 degrees; a soft product, up to 30 degrees, is sent with 135)
  *   kind 4  filling    u32 e_i, u32 e_o: eccentricities at filling and at the outlet (mm)
  *   kind 5  bottom     u32 hopper height H, u32 run r (mm); both 0 is a flat floor
  *   kind 6  strakes    1 to 24 u16 heights, top first (mm)

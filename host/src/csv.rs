@@ -4,7 +4,7 @@
 use crate::description::Section;
 use crate::library::ROW;
 use crate::number::hundredths;
-use crate::report::{Report, PROGRAM};
+use crate::report::{Report, BLANK_ANGLE, PROGRAM};
 use crate::text;
 
 /// How spreadsheets of a country write tables.
@@ -132,8 +132,13 @@ fn description(report: &Report, dialect: Dialect) -> String {
     add("weight", product.weight.to_string(), "N/m3");
     add("ratio", ratio(product.ratio), "");
     add("friction", ratio(product.friction), "");
-    let blank = if product.factor == 0 { "for a blank one" } else { "" };
-    add("factor", ratio(product.factor_used()), blank);
+    match product.factor {
+        0 => {
+            add("factor", ratio(product.factor_used()), &format!("for a blank one: {BLANK_ANGLE}"));
+            add("factor on the sheet", ratio(product.factor), "blank");
+        }
+        factor => add("factor", ratio(factor), ""),
+    }
     add("filling eccentricity", silo.filling_eccentricity.to_string(), "mm");
     add("outlet eccentricity", silo.outlet_eccentricity.to_string(), "mm");
     add("hopper height", silo.hopper_height.to_string(), "mm");

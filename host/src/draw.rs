@@ -15,7 +15,7 @@ mod wrap;
 
 use crate::description::{Description, Section};
 use crate::library::{Loads, P_W};
-use crate::report::Report;
+use crate::report::{Report, BLANK_ANGLE};
 use layout::{Layout, LEFT, TABLE, TOP};
 use shown::{degrees, length, pressure};
 use std::path::Path;
@@ -51,7 +51,8 @@ fn title(svg: &mut Svg, report: &Report, curves: &Loads, name: &str) -> f64 {
     let mut sizes = sizes(report.silo);
     sizes.extend(wall_load(report, curves));
     let sizes = sizes.iter().map(|part| part.replace(' ', "\u{a0}")).collect::<Vec<String>>();
-    for text in [report.product(), report.discharge().shown(), sizes.join(", ")] {
+    let product = report.product().replace(BLANK_ANGLE, &BLANK_ANGLE.replace(' ', "\u{a0}"));
+    for text in [product, report.discharge().shown(), sizes.join(", ")] {
         for line in wrap::lines(&text, NOTE, most) {
             y += 14.5;
             svg.text("start note", (LEFT, y), &line);

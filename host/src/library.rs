@@ -13,7 +13,7 @@ const MEANINGS: [&str; 17] = [
     "bytes are left over after the last record",
     "a diameter or side is outside 500 to 50000 mm",
     "the product is outside its limits: weight 1000 to 30000 N/m3, ratio Ks 0.20 to 1.00, friction mu 0.10 to 1.00, \
-     factor C0 1.00 to 2.00 or 0",
+     factor C0 1.00 to 2.00, or 0 for 1.55 (7.4 at 40 degrees)",
     "an eccentricity is over a quarter of the diameter or shorter side",
     "the bottom is neither flat nor a hopper of over 20 degrees with a run of at least 1 mm and under half the diameter \
      or shorter side, and a height of at most 25000 mm",

@@ -52,7 +52,9 @@ A silo's text, one name = value unit a line, in any order; # starts a comment:
   headroom = 300 mm             or no such line: grain level with the brim
 Lengths are in mm, cm or m, weights in N/m3 or kN/m3; a decimal has a point.
 Beside product, a line weight, ratio, friction or factor replaces that number;
-wall = corrugated needs friction, which table 7.1 does not have. A hopper is also
+wall = corrugated needs friction, which table 7.1 does not have. Without product,
+a factor left blank is taken as 1.55 (7.4 at an internal friction angle of 40
+degrees); a soft product, up to 30 degrees, needs factor = 1.35. A hopper is also
 said by hopper angle = 45 deg or outlet width = 600 mm. Optional lines for every
 output: project, customer, place, author, date, revision, note.
 

@@ -78,7 +78,7 @@ const NAMES: [Row; 25] = [
         "factor",
         &["c0", "c 0", "c₀", "co", "c o", "discharge factor"],
         "factor = 1.30",
-        "1.00 to 2.00, or blank",
+        "1.00 to 2.00, or blank for 1.55 (7.4 at 40 degrees)",
     ),
     row(
         Name::FillingEccentricity,

@@ -30,7 +30,7 @@ impl Report<'_> {
         let ratio = |number: u16| hundredths(number.into());
         let used = ratio(product.factor_used());
         let factor = match product.factor {
-            0 => format!("blank, taken as {used}"),
+            0 => format!("blank, taken as {used} ({BLANK_ANGLE})"),
             _ => used,
         };
         format!(
@@ -76,6 +76,7 @@ impl Report<'_> {
             Some(EDITION.to_string()),
             (silo.headroom > 0).then(|| headroom(silo)),
             self.origin.has_friction_on_steel(&silo.product).then(|| friction(silo)),
+            (silo.product.factor == 0).then(|| blank_factor(silo)),
             Some(wall_load(&discharge)),
             Some(patch(silo)),
             unreduced(discharge.shape).map(str::to_string),
@@ -91,6 +92,18 @@ const EDITION: &str =
     "ENV 1991-4:1995, which EN 1991-4:2006 has replaced; characteristic values without partial factors.";
 const TRANSITION: &str =
     "Hopper: without the extra pressure at the transition of a mass-flow hopper (5.26), which these rules do not cover.";
+
+/// Where a blank factor comes from.
+pub const BLANK_ANGLE: &str = "7.4 at 40 degrees";
+
+/// What a blank factor stands for, and which products need another.
+fn blank_factor(silo: &Description) -> String {
+    format!(
+        "Factor C0 is blank and taken as {}, equation 7.4 at an internal friction angle of 40 degrees. A soft product, up to 30 \
+         degrees, needs factor = 1.35 written in; one over 40 degrees needs more (7.4).",
+        hundredths(silo.product.factor_used().into())
+    )
+}
 
 /// From where depths and loads are counted.
 fn headroom(silo: &Description) -> String {

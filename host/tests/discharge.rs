@@ -153,7 +153,7 @@ fn what_makes_a_bin_slender() {
         ["slender", "slender", "squat"]
     );
     let blank = shape(&[&FLAT[..], &low, &[("factor", "")]].concat());
-    assert_eq!(blank.horizontal, Fraction { top: 57, bottom: 50 });
+    assert_eq!(blank.horizontal, Fraction { top: 61, bottom: 50 });
 }
 
 /// What follows a name up to the end of its line.

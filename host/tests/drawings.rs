@@ -19,7 +19,7 @@ use std::path::PathBuf;
 /// What differs from the silo of `common`; `true` has a flat floor.
 type Case = (&'static str, bool, &'static [(&'static str, &'static str)]);
 
-const CASES: [Case; 51] = [
+const CASES: [Case; 53] = [
     ("bin", false, &[]),
     ("tower", true, &[]),
     ("eccentric-tower", true, &[("e_o", "1 m"), ("e_i", "20 mm")]),
@@ -252,6 +252,12 @@ const CASES: [Case; 51] = [
     ),
     ("headroom", false, &[("headroom", "300 mm"), ("e_i", "200 mm")]),
     ("least-headroom", true, &[("headroom", "1 mm"), ("e_i", "1250 mm")]),
+    ("blank-factor-of-a-tower", true, &[("factor", "")]),
+    (
+        "many-notes",
+        false,
+        &[("factor", ""), ("strakes", "2 x 2 m"), ("headroom", "300 mm"), ("e_o", "1250 mm")],
+    ),
     ("headroom-to-an-edge", false, &[("headroom", "2 m"), ("e_o", "1250 mm")]),
     (
         "headroom-over-edges",
@@ -383,7 +389,7 @@ fn drawing(name: &str, text: &str, labels: &Labels, units: Units) -> Drawing {
     let report = Report { file: &file, silo: &silo, origin: &origin, labels, loads: &loads, units };
     let svg = draw::page(&report, &curves);
     let mut said = report.notes();
-    said.push(report.discharge().shown());
+    said.extend([report.product(), report.discharge().shown()]);
     said.extend(labels.iter().map(|(_, text)| text.clone()));
     said.extend([format!("{name}.silo"), PROGRAM.to_string()]);
     let is_edge = |row: &&[u32]| silo.edges().any(|(_, edge)| edge == u64::from(row[0]));
@@ -415,7 +421,9 @@ fn drawings() -> Vec<Drawing> {
         .iter()
         .map(|(name, flat, changes)| (name.to_string(), case(*flat, changes)))
         .collect();
-    for name in ["wheat-tower", "barley-bin", "cement", "flat-store", "headroom-bin"] {
+    for name in
+        ["wheat-tower", "barley-bin", "cement", "flat-store", "headroom-bin", "blank-factor"]
+    {
         let text = String::from_utf8(sample(&format!("{name}.silo"))).expect(name);
         texts.push((name.to_string(), text));
     }
@@ -658,6 +666,7 @@ fn any_silo(random: &mut Random) -> String {
     let headroom = millimetres(200 * strakes.len());
     let lines = [
         ("headroom", headroom),
+        ("factor", random.of(&["1.40", ""]).to_string()),
         ("diameter", format!("{width} mm")),
         ("strakes", format!("{} mm", strakes.join(", "))),
         ("filling eccentricity", filling),

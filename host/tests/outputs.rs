@@ -66,7 +66,7 @@ const PRODUCTS: [(Changes, &str); 9] = [
         ],
         "maize on steel, table 7.1 with own weight: weight 8000",
     ),
-    (&[("factor", "")], "factor C0 blank, taken as 1.35"),
+    (&[("factor", "")], "factor C0 blank, taken as 1.55 (7.4 at 40 degrees)"),
 ];
 
 #[test]
@@ -94,7 +94,7 @@ const HEADROOM: Changes = &[("headroom", "300 mm")];
 const LOW_HEADROOM: Changes = &[LOW[0], LOW[1], FLAT[0], FLAT[1], FLAT[2], HEADROOM[0]];
 
 /// A note's words, and silos with and without it.
-const NOTES: [(&str, &[Changes], &[Changes]); 15] = [
+const NOTES: [(&str, &[Changes], &[Changes]); 16] = [
     ("ENV 1991-4:1995, which EN 1991-4:2006 has replaced; characteristic values", &[&[]], &[]),
     ("P_w is the filling value", &[&[], &[("diameter", "-"), ("sides", "4.5 x 6 m")]], &[]),
     ("on discharge C_w 1.1, the factor on wall friction, applies to it too (5.20)", &[&[]], &[SQUAT, LOW]),
@@ -131,6 +131,12 @@ const NOTES: [(&str, &[Changes], &[Changes]); 15] = [
             &[BY_NAME[0], BY_NAME[1], BY_NAME[3], ("product", "wheat"), ("friction", "0.30")],
         ],
         &[&[], PRODUCTS[2].0, PRODUCTS[4].0, PRODUCTS[5].0, PRODUCTS[6].0],
+    ),
+    (
+        "Factor C0 is blank and taken as 1.55, equation 7.4 at an internal friction angle of 40 degrees. A soft product, up to 30 \
+         degrees, needs factor = 1.35 written in; one over 40 degrees needs more (7.4).",
+        &[&[("factor", "")], &[("factor", "0")], &[("factor", ""), LOW[0], LOW[1]]],
+        &[&[], &[("factor", "1.55")], PRODUCTS[3].0],
     ),
     (
         "extra pressure at the transition of a mass-flow hopper (5.26)",

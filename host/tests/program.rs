@@ -39,18 +39,19 @@ fn scratch(name: impl AsRef<Path>) -> PathBuf {
     PathBuf::from(env!("CARGO_TARGET_TMPDIR")).join(name)
 }
 
-const SAMPLES: [(&str, i32); 7] = [
+const SAMPLES: [(&str, i32); 8] = [
     ("wheat-tower", 0),
     ("barley-bin", 0),
     ("cement", 0),
     ("corrugated-bin", 0),
     ("flat-store", 0),
     ("headroom-bin", 0),
+    ("blank-factor", 0),
     ("blank-friction", 1),
 ];
 
 /// Outputs of the samples that are not tables: where they are stored, and the command.
-const OUTPUTS: [(&str, &[&str]); 14] = [
+const OUTPUTS: [(&str, &[&str]); 16] = [
     ("samples/wheat-tower.csv", &["loads", "samples/wheat-tower.silo", "--csv"]),
     ("samples/barley-bin.csv", &["loads", "--csv", "samples/barley-bin.silo"]),
     ("samples/corrugated-bin.csv", &["loads", CORRUGATED, "--csv-semicolon", "--kpa"]),
@@ -60,6 +61,8 @@ const OUTPUTS: [(&str, &[&str]); 14] = [
     ("samples/flat-store.json", &["loads", "samples/flat-store.silo", "--json"]),
     ("samples/headroom-bin.csv", &["loads", "samples/headroom-bin.silo", "--csv"]),
     ("samples/headroom-bin.json", &["loads", "samples/headroom-bin.silo", "--json"]),
+    ("samples/blank-factor.csv", &["loads", "samples/blank-factor.silo", "--csv"]),
+    ("samples/blank-factor.json", &["loads", "samples/blank-factor.silo", "--json"]),
     ("docs/wheat-tower.svg", &["draw", "samples/wheat-tower.silo", "-o", "-"]),
     ("docs/barley-bin.svg", &["draw", "samples/barley-bin.silo", "-o", "-"]),
     ("docs/corrugated-bin.svg", &["draw", CORRUGATED, "--kpa", "-o", "-"]),

@@ -46,6 +46,7 @@ fn damaged_sheets_are_judged_by_the_library_alone() {
         "cement.silo",
         "flat-store.silo",
         "headroom-bin.silo",
+        "blank-factor.silo",
     ];
     let sheets = names.map(|name| {
         let text = String::from_utf8(sample(name)).expect(name);

@@ -486,6 +486,7 @@ fn damaged_texts_give_errors_with_lines_and_never_a_panic() {
         "cement.silo",
         "blank-friction.silo",
         "headroom-bin.silo",
+        "blank-factor.silo",
     ];
     let texts = names.map(|name| String::from_utf8(sample(name)).expect(name));
     let (mut read, mut unread, mut accepted) = (0, 0, 0);

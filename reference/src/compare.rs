@@ -1,13 +1,14 @@
-//! The comparison of a library with document 01 and with C-11 and C-13 of document 02, for sheets of any kind.
+//! The comparison of a library with document 01 and with C-11, C-13 and C-14 of document 02, for sheets of any kind.
 //!
 //! For an accepted sheet: filling pressures and P_w inside their bands, each load made from filling equal to its formula over the
 //! filling pressures and inside its allowance, all at the load depth, nothing falling with depth. For a refused one: its number from both
-//! calls, and the list as it was. For a sheet of six records, accepted or not: the same with a headroom of 0.
+//! calls, and the list as it was. For a sheet of six records, accepted or not: the same with a headroom of 0. For every sheet
+//! made blank, accepted or not: the same with 155 and with 135 written in.
 
 use crate::calls::{expect, Calls, Difference, Library, Outcome, UNTOUCHED, UNTOUCHED_BYTE};
 use crate::formulas::{self, Discharge, Filling};
 use crate::fraction::{fraction, least, whole, Fraction, Real};
-use crate::sheet::{parse, records, Silo};
+use crate::sheet::{parse, records, with_factor, Silo};
 use crate::{catalogue, governing};
 use std::fmt;
 
@@ -23,6 +24,19 @@ fn shape(silo: &Silo) -> usize {
     let limits = [h >= d_c, h > d_c, 2 * h >= 3 * d_c, 2 * h > 3 * d_c];
     limits.into_iter().filter(|reached| *reached).count()
 }
+
+/// Kinds of silos with a blank factor by h/d_c: C_h is 1, rests on h, or is C0.
+const BLANKS: [&str; 3] = ["at most 1", "between 1 and 1.5", "from 1.5 on"];
+
+fn blank(silo: &Silo) -> usize {
+    [0, 0, 1, 2, 2][shape(silo)]
+}
+
+/// What is written into C0: nothing, its meaning before C-14, and the one of C-14.
+const WRITTEN: [u16; 3] = [0, 135, 155];
+
+/// Kinds of accepted sheets that are made blank, by their numbers beside those with 135.
+const BESIDE: [&str; 2] = ["equal", "some greater"];
 
 /// Kinds of sheets by their headroom.
 const HEADROOMS: [&str; 3] = ["no record", "0", "above 0"];
@@ -41,9 +55,13 @@ const PLACES: [&str; 3] = ["above the surface", "at it", "below"];
 /// What was compared.
 #[derive(Default)]
 pub struct Tally {
-    /// Accepted sheets by h/d_c, and by headroom.
+    /// Accepted sheets by h/d_c, and by headroom; those of them with a blank factor by h/d_c.
     shapes: [u64; SHAPES.len()],
     headrooms: [u64; HEADROOMS.len()],
+    blanks: [u64; BLANKS.len()],
+    /// Sheets that are made blank, each beside the same with 135 and with 155: accepted ones, and refused ones by number.
+    pub beside: [u64; BESIDE.len()],
+    blank_refused: [u64; 18],
     /// Sheets by the number of their refusal; at 14 lists of a wrong length, each lent with an accepted sheet.
     pub refused: [u64; 18],
     /// Rows, and those on sheets with a headroom above 0 by their place.
@@ -53,9 +71,10 @@ pub struct Tally {
     /// Sheets of six records, each beside the same with a headroom of 0.
     zero_headrooms: u64,
     pub pairs: u64,
-    /// Pairs whose discharge factors, or whose headrooms, differ.
+    /// Pairs whose discharge factors, or whose headrooms, differ; pairs with a blank factor.
     pub unlike_pairs: u64,
     pub unlike_headrooms: u64,
+    pub blank_pairs: u64,
     /// Silos with a headroom above 0 beside one that is level with its brim.
     pub levels: u64,
     /// Filling pressures, and those of them that are less than 1 + 1/64 above.
@@ -75,13 +94,15 @@ impl Tally {
     }
 
     /// The kinds that accepted sheets and their rows are told apart by, with the count of each.
-    fn kinds(&self) -> [(&str, Vec<(&str, u64)>); 3] {
+    fn kinds(&self) -> [(&str, Vec<(&str, u64)>); 5] {
         let counted = |names: &[&'static str], counts: &[u64]| {
             names.iter().copied().zip(counts.iter().copied()).collect()
         };
         [
             ("accepted, by h/d_c", counted(&SHAPES, &self.shapes)),
             ("accepted, by headroom", counted(&HEADROOMS, &self.headrooms)),
+            ("accepted with a blank factor, by h/d_c", counted(&BLANKS, &self.blanks)),
+            ("accepted and made blank, beside 135", counted(&BESIDE, &self.beside)),
             ("rows under a headroom", counted(&PLACES, &self.places)),
         ]
     }
@@ -96,6 +117,8 @@ impl fmt::Display for Tally {
             writeln!(f, "{kind}: {}", counts.join(", "))?;
         }
         writeln!(f, "refused, by number: {}", refused.join(", "))?;
+        let blank_refused: u64 = self.blank_refused.iter().sum();
+        writeln!(f, "refused and made blank, beside 135 and 155: {blank_refused}")?;
         writeln!(
             f,
             "accepted sheets had {} rows and {} strakes; {} sheets of six records beside the same with a headroom of 0",
@@ -103,8 +126,8 @@ impl fmt::Display for Tally {
         )?;
         writeln!(
             f,
-            "{} pairs with one section and product, {} of them with unlike factors, {} with unlike headrooms; {} beside a level silo",
-            self.pairs, self.unlike_pairs, self.unlike_headrooms, self.levels
+            "{} pairs with one section and product, {} of them with unlike factors, {} with unlike headrooms, {} with a blank factor; {} beside a level silo",
+            self.pairs, self.unlike_pairs, self.unlike_headrooms, self.blank_pairs, self.levels
         )?;
         write!(
             f,
@@ -130,7 +153,7 @@ impl<'a> Comparison<'a> {
         Comparison { calls: Calls { library, canaries: 8 }, tally: Tally::default() }
     }
 
-    /// Prints what was compared; an accepted sheet of each kind and each of these refusals have to be among it.
+    /// Prints what was compared; an accepted sheet of each kind and each of these refusals, also with a blank factor, have to be among it.
     pub fn report(&self, refusals: impl IntoIterator<Item = usize>) {
         println!("{}", self.tally);
         for (kind, counts) in self.tally.kinds() {
@@ -140,6 +163,8 @@ impl<'a> Comparison<'a> {
         }
         for number in refusals {
             assert!(self.tally.refused[number] > 0, "refusal {number} was never reached");
+            let blank = number == 14 || self.tally.blank_refused[number] > 0;
+            assert!(blank, "refusal {number} was never reached with a blank factor");
         }
     }
 
@@ -154,16 +179,58 @@ impl<'a> Comparison<'a> {
         }
     }
 
-    /// A refused sheet: its number from both calls, and each list as it was.
+    /// A refused sheet, also made blank, and of six records also with a headroom of 0.
     fn refused(&mut self, bytes: &[u8], refusal: u64, lengths: &[usize]) -> Outcome {
-        let told = self.calls.answers_length(bytes)?;
-        expect(told == refusal, bytes, || format!("answers_length {told}, refusal {refusal} due"))?;
-        lengths.iter().try_for_each(|length| self.untouched(bytes, refusal, *length))?;
+        self.refusal(bytes, refusal, lengths)?;
         self.tally.refused[refusal as usize] += 1;
+        self.refused_blank(bytes, lengths)?;
         match records(bytes) {
             Ok(silo) => self.zero_headroom(&silo, lengths),
             Err(_) => Ok(()),
         }
+    }
+
+    /// The number from both calls, and each list as it was.
+    fn refusal(&self, bytes: &[u8], refusal: u64, lengths: &[usize]) -> Outcome {
+        let told = self.calls.answers_length(bytes)?;
+        expect(told == refusal, bytes, || format!("answers_length {told}, refusal {refusal} due"))?;
+        lengths.iter().try_for_each(|length| self.untouched(bytes, refusal, *length))
+    }
+
+    /// A refused sheet with a whole product record, its factor made blank: still refused, and alike with 135 and 155, since each of these
+    /// meets rule 7; or accepted, where its factor alone was wrong.
+    fn refused_blank(&mut self, bytes: &[u8], lengths: &[usize]) -> Outcome {
+        let sheets = WRITTEN.map(|factor| with_factor(bytes, factor));
+        let [Some(blank), ..] = &sheets else {
+            return Ok(());
+        };
+        match parse(blank) {
+            Ok(silo) => self.blank_factor(&silo),
+            Err(refusal) => {
+                self.tally.blank_refused[refusal as usize] += 1;
+                sheets.iter().flatten().try_for_each(|sheet| self.refusal(sheet, refusal, lengths))
+            }
+        }
+    }
+
+    /// An accepted sheet, its factor made blank: the same list as with 155, and beside 135 no smaller p_he, p_p and strakes, all else
+    /// being the same.
+    pub fn blank_factor(&mut self, silo: &Silo) -> Outcome {
+        let silos = WRITTEN.map(|factor| Silo { factor: factor.into(), ..silo.clone() });
+        let bytes = silos[0].sheet();
+        let [blank, soft, careful] = silos.each_ref().map(|silo| self.answers(silo));
+        let (blank, soft) = (blank?, soft?);
+        expect(blank == careful?, &bytes, || "a blank factor's list is not that of 155".into())?;
+        let bottom = 8 * silo.depths.len();
+        for (i, (with_blank, with_soft)) in blank.iter().zip(&soft).enumerate() {
+            let discharge = i >= bottom + 10 || i < bottom && [5, 7].contains(&(i % 8));
+            let holds = with_blank == with_soft || discharge && with_blank > with_soft;
+            expect(holds, &bytes, || {
+                format!("number {i} is {with_blank} with a blank factor, {with_soft} with 135")
+            })?;
+        }
+        self.tally.beside[usize::from(blank != soft)] += 1;
+        Ok(())
     }
 
     /// Six records, accepted or not, and the same with a headroom of 0: both calls answer alike, and leave alike lists.
@@ -233,8 +300,10 @@ impl<'a> Comparison<'a> {
         let all = at_load_depths(silo, [listed, edges].concat());
         self.never_falls(&bytes, all, &[1, 2, 3, 5, 6, 7])?;
         self.zero_headroom(silo, &[list.len(), list.len() + 1])?;
+        self.blank_factor(silo)?;
         self.tally.shapes[shape(silo)] += 1;
         self.tally.headrooms[headroom(silo)] += 1;
+        self.tally.blanks[blank(silo)] += u64::from(silo.factor == 0);
         self.tally.strakes += silo.strakes.len() as u64;
         Ok(())
     }
@@ -252,6 +321,7 @@ impl<'a> Comparison<'a> {
         self.tally.pairs += 1;
         self.tally.unlike_pairs += u64::from(Discharge::of(one) != Discharge::of(other));
         self.tally.unlike_headrooms += u64::from(one.g() != other.g());
+        self.tally.blank_pairs += u64::from(one.factor == 0);
         Ok(())
     }
 

@@ -1,5 +1,6 @@
-//! The loads of document 01, squat bins as in C-11 of document 02 and headroom as in C-13, as exact numbers: lengths in metres, hundredths
-//! as plain ratios, nothing rounded. A depth z is the sheet's own; the loads there are those at its load depth.
+//! The loads of document 01, squat bins as in C-11 of document 02, headroom as in C-13 and a blank factor as in C-14, as exact numbers:
+//! lengths in metres, hundredths as plain ratios, nothing rounded. A depth z is the sheet's own; the loads there are those at its load
+//! depth.
 
 use crate::exponential::exponential;
 use crate::fraction::{fraction, whole, Fraction, Real};
@@ -77,9 +78,12 @@ pub fn filling(silo: &Silo, z: u64) -> Filling {
     }
 }
 
-/// C0, a blank one read as 1.35.
+/// A blank C0 in hundredths: (7.4) of source 001, 1.35 + 0.02·(φ - 30°), at an internal friction angle φ of 40°.
+const BLANK: u64 = 135 + 2 * (40 - 30);
+
+/// C0, a blank one read as 1.55.
 pub fn c0(silo: &Silo) -> Fraction {
-    fraction(if silo.factor == 0 { 135 } else { silo.factor }, 100)
+    fraction(if silo.factor == 0 { BLANK } else { silo.factor }, 100)
 }
 
 /// h/d_c.

@@ -113,7 +113,7 @@ fn candidate(random: &mut Random) -> Silo {
         weight: random.within(1_000, 30_000),
         ratio: random.within(20, 100),
         friction: random.within(10, 100),
-        factor: if random.one_in(4) { 0 } else { random.within(100, 200) },
+        factor: factor(random),
         e_i: random.pick(&eccentricity),
         e_o: random.pick(&eccentricity),
         hopper_height,
@@ -121,6 +121,15 @@ fn candidate(random: &mut Random) -> Silo {
         strakes,
         depths: vec![0],
         headroom,
+    }
+}
+
+/// C0, blank one time in four.
+fn factor(random: &mut Random) -> u64 {
+    if random.one_in(4) {
+        0
+    } else {
+        random.within(100, 200)
     }
 }
 
@@ -250,7 +259,7 @@ pub fn heavy(random: &mut Random) -> Silo {
         weight: random.within(25_000, 30_000),
         ratio: random.within(20, 100),
         friction: random.within(10, 14),
-        factor: random.within(100, 200),
+        factor: factor(random),
         strakes: vec![3_000; 24],
         headroom: headroom(random),
         ..sample()

@@ -1,6 +1,6 @@
-//! A second implementation of document 01 and of C-11 and C-13 of document 02, written from their text: exact fractions in whole numbers of
-//! any size, e^-q enclosed by its series, every refusal and every load; and its comparison with a library that offers the calls of
-//! `include/silo.h`.
+//! A second implementation of document 01 and of C-11, C-13 and C-14 of document 02, written from their text: exact fractions in whole
+//! numbers of any size, e^-q enclosed by its series, every refusal and every load; and its comparison with a library that offers the calls
+//! of `include/silo.h`.
 
 pub mod calls;
 pub mod catalogue;

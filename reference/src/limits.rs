@@ -1,5 +1,5 @@
-//! Every limit of document 01, and of C-11 and C-13 of document 02: sheets with the value at it, below it and above it, each with the
-//! number due; 0 is acceptance.
+//! Every limit of document 01, and of C-11, C-13 and C-14 of document 02: sheets with the value at it, below it and above it, each with
+//! the number due; 0 is acceptance.
 
 use crate::inputs::{equal_strakes, sample};
 use crate::sheet::{record, Silo};
@@ -34,10 +34,10 @@ const NUMBERS: &[(Change, &[(u64, u64)])] = &[
         |silo, n| silo.friction = n,
         &[(0, 7), (9, 7), (10, 0), (11, 0), (99, 0), (100, 0), (101, 7), (65_535, 7)],
     ),
-    (
-        |silo, n| silo.factor = n,
-        &[(0, 0), (1, 7), (99, 7), (100, 0), (101, 0), (199, 0), (200, 0), (201, 7), (65_535, 7)],
-    ),
+    (|silo, n| silo.factor = n, FACTORS),
+    (|silo, n| (silo.factor, silo.headroom) = (n, Some(2_000)), FACTORS),
+    (|silo, n| (silo.factor, silo.section[0]) = (n, 8_000), FACTORS),
+    (|silo, n| (silo.factor, silo.section[0]) = (n, 20_000), FACTORS),
     (|silo, n| silo.e_i = n, ECCENTRICITIES),
     (|silo, n| silo.e_o = n, ECCENTRICITIES),
     (
@@ -70,6 +70,27 @@ const NUMBERS: &[(Change, &[(u64, u64)])] = &[
         |silo, n| (silo.depths, silo.headroom) = (vec![4_999, 5_000, 5_001], Some(n)),
         &[(4_998, 0), (4_999, 0), (5_000, 0), (5_001, 0), (5_002, 0)],
     ),
+];
+
+/// A blank C0 is accepted, 1 to 99 are not; what it means now and meant before, with the hundredth on either side.
+const FACTORS: &[(u64, u64)] = &[
+    (0, 0),
+    (1, 7),
+    (55, 7),
+    (99, 7),
+    (100, 0),
+    (101, 0),
+    (134, 0),
+    (135, 0),
+    (136, 0),
+    (154, 0),
+    (155, 0),
+    (156, 0),
+    (199, 0),
+    (200, 0),
+    (201, 7),
+    (256, 7),
+    (65_535, 7),
 ];
 
 /// d_c is 5,000; four times 2^30 is 0 in 32 bits.

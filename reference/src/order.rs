@@ -9,9 +9,10 @@ type Damage = fn(&mut Vec<u8>, usize);
 
 /// Ways to break each rule from 6 to 12, in their order, that leave the others as they are and can be joined with any. The hopper alone is
 /// too high for 12, whatever the headroom.
-const VALUES: [(u64, Break); 9] = [
+const VALUES: [(u64, Break); 10] = [
     (6, |silo| silo.section.push(50_001)),
     (7, |silo| silo.weight = 999),
+    (7, |silo| silo.factor = 99),
     (8, |silo| silo.e_o = u32::MAX.into()),
     (9, |silo| silo.run = u32::MAX.into()),
     (10, |silo| silo.strakes[4] = 199),
@@ -32,18 +33,19 @@ const RECORD: [(u64, Damage); 4] = [
     (4, |sheet, at| sheet[at] += 1),
 ];
 
-/// Silos of 9 m under several widths: slender, at h = 1.5·d_c, squat, at h = d_c and below it; level with the brim and under a headroom. No
-/// rule's place is taken by the shape.
+/// Silos of 9 m under several widths: slender, at h = 1.5·d_c, squat, at h = d_c and below it; level with the brim and under a headroom;
+/// with C0 blank and written. No rule's place is taken by the shape or by the factor.
 fn silos() -> Vec<Silo> {
     let walls = [(None, 1_800), (Some(0), 1_800), (Some(1_000), 2_000)];
     let of_width = |width: u64| {
-        walls.map(|(headroom, strake)| Silo {
+        let written = walls.map(|(headroom, strake)| Silo {
             section: vec![width],
             strakes: vec![strake; 5],
             depths: vec![0, 1_000, 5_000],
             headroom,
             ..sample()
-        })
+        });
+        written.into_iter().flat_map(|silo| [Silo { factor: 0, ..silo.clone() }, silo])
     };
     [5_000, 6_000, 8_000, 9_000, 20_000].into_iter().flat_map(of_width).collect()
 }

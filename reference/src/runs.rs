@@ -30,11 +30,14 @@ pub fn accepted(comparison: &mut Comparison, random: &mut Random, count: u64) ->
     })
 }
 
-/// Random silos, each beside another one with its section and product, and beside one that is level with its brim.
+/// Random silos, each beside another one with its section and product, and beside one that is level with its brim; both of a pair made
+/// blank too.
 pub fn pairs(comparison: &mut Comparison, random: &mut Random, count: u64) -> Outcome {
     (0..count).try_for_each(|_| {
         let silo = inputs::silo(random);
-        comparison.pair(&silo, &inputs::sibling(random, &silo))?;
+        let sibling = inputs::sibling(random, &silo);
+        comparison.pair(&silo, &sibling)?;
+        [&silo, &sibling].into_iter().try_for_each(|silo| comparison.blank_factor(silo))?;
         comparison.level(&silo, &inputs::level(&silo))
     })
 }

@@ -9,7 +9,7 @@ pub struct Silo {
     pub weight: u64,
     pub ratio: u64,
     pub friction: u64,
-    /// As written: 0 stands for 135.
+    /// As written: 0 is a blank one.
     pub factor: u64,
     pub e_i: u64,
     pub e_o: u64,
@@ -154,6 +154,14 @@ pub fn records(sheet: &[u8]) -> Result<Silo, u64> {
         depths: numbers(payloads[5], 4),
         headroom: payloads.get(6).map(|payload| number(payload)),
     })
+}
+
+/// A sheet with that C0, where its second record is a product's and lies whole inside it, whatever else is wrong with it.
+pub fn with_factor(sheet: &[u8], factor: u16) -> Option<Vec<u8>> {
+    let product = 4 + number(sheet.get(..2)?) as usize;
+    let (before, after) = (sheet.get(..product + 12)?, sheet.get(product + 14..)?);
+    let written = [before, &factor.to_le_bytes(), after].concat();
+    before[product..].starts_with(&[10, 0, 3, 0]).then_some(written)
 }
 
 /// Refusals 6 to 11, 17 and 12 in this order, or 0.

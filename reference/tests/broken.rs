@@ -1,8 +1,8 @@
 //! Broken stand-ins for the library: the comparison has to find each of them in what the other tests compare.
 //!
 //! Each calls the library and changes what it leaves or answers: the worthless versions of document 01, its traps, single numbers and
-//! limits one off, other discharge factors, a headroom that is read otherwise, rules in another order, and memory that is written to where
-//! it must not be.
+//! limits one off, other discharge factors, a headroom or a blank factor that is read otherwise, rules in another order, and memory that is
+//! written to where it must not be.
 
 use reference::calls::{Library, Outcome, UNTOUCHED};
 use reference::compare::Comparison;
@@ -194,6 +194,37 @@ fn partly_level(sheet: &[u8], list: &mut [u32], put: impl Fn(&Silo, &mut [u32], 
 fn put_level_bottom(silo: &Silo, list: &mut [u32], level: &Silo) {
     let bottom = 8 * silo.depths.len();
     list[bottom..bottom + 10].copy_from_slice(&list_of(level)[bottom..bottom + 10]);
+}
+
+/// C_h with a C0 of 135.
+fn soft(silo: &Silo) -> Fraction {
+    Discharge::of(&Silo { factor: 135, ..silo.clone() }).c_h
+}
+
+/// The library's list, of a sheet with a blank C0 changed.
+fn filled_blank(sheet: &[u8], list: &mut [u32], change: fn(&Silo, &mut [u32])) -> u32 {
+    filled(sheet, list, |silo, list| {
+        if silo.factor == 0 {
+            change(silo, list);
+        }
+    })
+}
+
+/// The library's list, with a C0 of some kind read as another.
+fn read_as(sheet: &[u8], list: &mut [u32], factor: u64, read: fn(&Silo) -> bool) -> u32 {
+    match parse(sheet) {
+        Ok(silo) if read(&silo) => loads(&Silo { factor, ..silo }.sheet(), list),
+        _ => loads(sheet, list),
+    }
+}
+
+/// P_w one more, where it stays inside its band.
+fn put_greater_line(silo: &Silo, list: &mut [u32]) {
+    each_row(silo, list, |row| {
+        let line = formulas::filling(silo, row[0].into()).line;
+        let more = line.plus(&Real::exactly(whole(1)));
+        row[4] += u32::from(!more.is_at_most(&whole(row[4].into())));
+    });
 }
 
 /// z as far below the surface as it is above it, where the wall is so high.
@@ -487,11 +518,9 @@ const HEADROOMS: &[(&str, Loads)] = &[
     }),
     ("P_w one more under a headroom, inside its band", |sheet, list| {
         filled(sheet, list, |silo, list| {
-            each_row(silo, list, |row| {
-                let line = formulas::filling(silo, row[0].into()).line;
-                let more = line.plus(&Real::exactly(whole(1)));
-                row[4] += u32::from(silo.g() > 0 && !more.is_at_most(&whole(row[4].into())));
-            });
+            if silo.g() > 0 {
+                put_greater_line(silo, list);
+            }
         })
     }),
     ("load depths as |z - g|", |sheet, list| {
@@ -504,6 +533,63 @@ const HEADROOMS: &[(&str, Loads)] = &[
             let at_edges = silo.edges().into_iter().map(|z| row_at(mirrored(silo, z))[1]).collect();
             put_strakes(silo, list, &Discharge::of(silo).c_h, at_edges);
         })
+    }),
+];
+
+/// A blank factor read otherwise, or another one for blank.
+const BLANKS: &[(&str, Loads)] = &[
+    ("a blank C0 as 135", |sheet, list| read_as(sheet, list, 135, |silo| silo.factor == 0)),
+    ("a blank C0 as 154", |sheet, list| read_as(sheet, list, 154, |silo| silo.factor == 0)),
+    ("a blank C0 as 156", |sheet, list| read_as(sheet, list, 156, |silo| silo.factor == 0)),
+    ("a blank C0 as 135 in squat bins", |sheet, list| {
+        read_as(sheet, list, 135, |silo| silo.factor == 0 && is_squat(silo))
+    }),
+    ("a blank C0 as 135 under a headroom", |sheet, list| {
+        read_as(sheet, list, 135, |silo| silo.factor == 0 && silo.headroom.is_some())
+    }),
+    ("a C0 of 100 as blank", |sheet, list| read_as(sheet, list, 0, |silo| silo.factor == 100)),
+    ("a C0 of 135 as blank", |sheet, list| read_as(sheet, list, 0, |silo| silo.factor == 135)),
+    ("every C0 below 155 as blank", |sheet, list| {
+        read_as(sheet, list, 0, |silo| silo.factor < 155)
+    }),
+    ("a C0 from 1 to 99 as blank", |sheet, list| {
+        taken_for(sheet, list, |silo| (silo.factor < 100).then_some(Silo { factor: 0, ..silo }))
+    }),
+    ("a C0 of 99 as blank", |sheet, list| {
+        taken_for(sheet, list, |silo| (silo.factor == 99).then_some(Silo { factor: 0, ..silo }))
+    }),
+    ("7 for a blank C0", |sheet, list| refusing(sheet, list, 7, |silo| silo.factor == 0)),
+    ("7 for a blank C0 before a later refusal", |sheet, list| {
+        match (loads(sheet, list), records(sheet)) {
+            (8..=12, Ok(silo)) if silo.factor == 0 => 7,
+            (answer, _) => answer,
+        }
+    }),
+    ("C_h of 1.55 for a blank C0 in squat bins", |sheet, list| {
+        discharged_squat(sheet, list, |silo| match silo.factor {
+            0 => Discharge { c_h: c0(silo), ..Discharge::of(silo) },
+            _ => Discharge::of(silo),
+        })
+    }),
+    ("p_we by 1.55 for a blank C0", |sheet, list| {
+        filled_blank(sheet, list, |silo, list| {
+            each_row(silo, list, |row| row[6] = magnified(row[2], &c0(silo)));
+        })
+    }),
+    ("strakes by 135 for a blank C0", |sheet, list| {
+        filled_blank(sheet, list, |silo, list| {
+            put_strakes(silo, list, &soft(silo), edge_pressures(silo));
+        })
+    }),
+    ("the patch over p_he by 135 for a blank C0", |sheet, list| {
+        filled_blank(sheet, list, |silo, list| {
+            each_row(silo, list, |row| {
+                row[7] = magnified(magnified(row[1], &soft(silo)), &formulas::patch(silo));
+            });
+        })
+    }),
+    ("P_w one more for a blank C0, inside its band", |sheet, list| {
+        filled_blank(sheet, list, put_greater_line)
     }),
 ];
 
@@ -642,6 +728,14 @@ const LENGTHS: &[(&str, Length)] = &[
         let more = parse(sheet).is_ok_and(|silo| silo.headroom.is_some());
         answers_length(sheet) + u64::from(more)
     }),
+    ("7 for a blank C0", |sheet| match parse(sheet) {
+        Ok(silo) if silo.factor == 0 => 7,
+        _ => answers_length(sheet),
+    }),
+    ("a C0 from 1 to 99 as blank", |sheet| match records(sheet) {
+        Ok(silo) if silo.factor < 100 => answers_length(&Silo { factor: 0, ..silo }.sheet()),
+        _ => answers_length(sheet),
+    }),
 ];
 
 /// Wrong answers of the governing call.
@@ -728,7 +822,7 @@ fn is_found(name: &str, outcome: Outcome) {
 
 #[test]
 fn broken_load_calls_are_found() {
-    for (name, loads) in [LISTS, FACTORS, HEADROOMS, REFUSALS].concat() {
+    for (name, loads) in [LISTS, FACTORS, HEADROOMS, BLANKS, REFUSALS].concat() {
         is_found(name, compared(&Broken { loads, ..WHOLE }));
     }
 }

@@ -1,5 +1,5 @@
-//! The cases that document 01 writes down, as C-11 of document 02 moves them, and the same under the headroom of C-13; each sheet also
-//! compared as any other.
+//! The cases that document 01 writes down, as C-11 and C-14 of document 02 move them, and the same under the headroom of C-13; each sheet
+//! also compared as any other.
 
 use reference::compare::Comparison;
 use reference::formulas::{self, Discharge};
@@ -84,6 +84,7 @@ fn accepted_and_refused_as_written() {
     let hopper = |height| with(|silo| (silo.run, silo.hopper_height) = (1_000, height));
     let height = |height| of_height(&[5_000], height, (0, 0));
     let under = |height, g| under_headroom(&[5_000], height, (0, 0), g);
+    let blank = |silo| Silo { factor: 0, ..silo };
     let silos = [
         (height(200), 0),
         (height(4_999), 0),
@@ -107,6 +108,11 @@ fn accepted_and_refused_as_written() {
         (with(|silo| silo.friction = 9), 7),
         (with(|silo| silo.friction = 0), 7),
         (with(|silo| silo.factor = 99), 7),
+        (blank(sample()), 0),
+        (blank(height(5_000)), 0),
+        (blank(height(7_499)), 0),
+        (blank(height(7_500)), 0),
+        (blank(under(7_499, 2_000)), 0),
         (with(|silo| silo.depths = vec![10_000]), 0),
         (with(|silo| silo.depths = vec![10_001]), 11),
         (under(10_000, 0), 0),
@@ -133,10 +139,25 @@ fn accepted_and_refused_as_written() {
     comparison.report([2, 3, 4, 5, 7, 8, 9, 11, 17, 12, 14]);
 }
 
-#[test]
-fn a_blank_factor_acts_as_135() {
+/// The lists with a blank factor and with another.
+fn beside_blank(factor: u64) -> [Vec<u64>; 2] {
     let comparison = Comparison::with(&Linked);
-    let [blank, written] =
-        [0, 135].map(|factor| comparison.answers(&with(|silo| silo.factor = factor)).unwrap());
+    [0, factor].map(|factor| comparison.answers(&with(|silo| silo.factor = factor)).unwrap())
+}
+
+#[test]
+fn a_blank_factor_acts_as_155() {
+    let [blank, written] = beside_blank(155);
     assert_eq!(blank, written);
+    gives(&with(|silo| silo.factor = 0), 27_276, 5_456, 8_080);
+}
+
+/// p_he, p_p and the strakes are greater, the filling, p_we and the floor are not.
+#[test]
+fn a_blank_factor_no_longer_acts_as_135() {
+    let [blank, written] = beside_blank(135);
+    let greater: Vec<usize> = (0..blank.len()).filter(|i| blank[*i] > written[*i]).collect();
+    assert_eq!(greater, [13, 15, 26, 27, 28, 29, 30]);
+    assert!((0..blank.len()).all(|i| greater.contains(&i) || blank[i] == written[i]));
+    gives(&with(|silo| silo.factor = 135), 23_756, 4_752, 8_080);
 }

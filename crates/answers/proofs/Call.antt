@@ -1,15 +1,13 @@
 -- What the load call answers and leaves, in its three cases: refused for the sheet, refused for the list's length, filled.
 -- Assumes nothing.
-use Prim.Native.Nat.{ℕ, _≤_}
+use Prim.Native.Nat.{ℕ}
 use mathlib.Core.Path.{_≡_, refl, sym, _∙_, subst}
 use mathlib.Core.Bool.{false}
 use mathlib.Core.List.{List, [], _∷_, _++_}
-use native.Mathlib.Decide.{decLe}
 use native.Mathlib.Omega.{arith}
 use borrow.Author.Tests.{eq-eqb, ne-eqb}
 use lib.Dec.{eqb}
 use lib.ListN.{length}
-use Rattle.janssen.specs.Numbers.{FillingNumbers}
 use Rattle.janssen.specs.program.Pressure.{computed}
 use Rattle.records.specs.Rules.{Rule, _unless_, first-unmet}
 use Rattle.records.specs.Format.{record-rules, records-rules}
@@ -21,7 +19,7 @@ use Rattle.answers.specs.Length.{length-due}
 use Rattle.answers.specs.Answers.{Filled, loads-rules}
 use Rattle.answers.specs.Promise.{Promise}
 use Rattle.answers.specs.program.Fill.{answers}
-use Rattle.answers.proofs.Places.{answers-filled, filled-once}
+use Rattle.answers.proofs.Places.{answers-filled}
 use Rattle.answers.proofs.Demand.{claim}
 
 -- 13 is no rule of the load call either
@@ -67,18 +65,3 @@ module _ (s lent : List ℕ) where
         filled = λ _. fill;
         demand = λ _. claim s list h fill;
       }
-
--- two sheets of which the one is refused where the other is, and a list that fills the answers of the one fills those of the other
-module _ (f : FillingNumbers) (s s' : List ℕ) (answers-alike : (n : ℕ) → first-unmet (loads-rules s n) ≡ first-unmet (loads-rules s' n)) {lent left left' : List ℕ} {r r' : ℕ}
-    (filled-alike : refusal-of s ≡ 0 → Filled f s left → Filled f s' left) where
-  same-left : Promise f s lent r left → Promise f s' lent r' left' → r ≡ r' → Dec (r ≤ 0) → left ≡ left'
-  same-left a b e (yes z) =
-      let h : r ≡ 0 = omega (arith, z) in
-      filled-once f s' left left' (filled-alike (not-refused s (length lent) (sym (a .answer) ∙ h)) (a .filled h)) (b .filled (sym e ∙ h))
-  same-left a b e (no n) = a .unchanged (λ z. n (omega (arith, z))) ∙ sym (b .unchanged (λ z. n (omega (arith, z, e))))
-
-  -- then the load call, lent the same list, answers the same and leaves the same list
-  pub same-call : Promise f s lent r left → Promise f s' lent r' left' → (r ≡ r') × (left ≡ left')
-  same-call a b =
-      let e : r ≡ r' = a .answer ∙ answers-alike (length lent) ∙ sym (b .answer) in
-      (e, same-left a b e (decLe r 0))

@@ -16,8 +16,9 @@ use Rattle.records.proofs.Records.{six-least}
 use Rattle.description.specs.Silo.{section-of, product-of, bottom-of, depth-count, strakes-of, edge-of, V-of, h-of}
 use Rattle.description.proofs.Sums.{sum-under}
 use Rattle.sheet.specs.Refusal.{refusal-of}
-use Rattle.sheet.specs.Accepted.{Layout, Accepted}
+use Rattle.sheet.specs.Accepted.{Accepted}
 use Rattle.sheet.proofs.Acceptance.{accepted}
+use Rattle.sheet.proofs.Parts.{section-same, product-same}
 use Rattle.sheet.proofs.Described.{edge-most, V-most, grain-below-ten, in-range, factor-in}
 use Rattle.loads.specs.declared.Silo.{Silo}
 use Rattle.loads.specs.Load.{Load}
@@ -30,7 +31,7 @@ use Rattle.loads.proofs.LoadLaws.{filling-more, holds, rises, rises-below, bott
 use Rattle.answers.specs.Answers.{silo-of, depth, bottom-in, Filled}
 use Rattle.answers.specs.Place.{rank}
 use Rattle.answers.specs.Claim.{SameSectionAndProduct, Ordered, Claim}
-use Rattle.answers.proofs.SameRecords.{same-section, same-product}
+use Rattle.answers.proofs.SameRecords.{first-record, second-record}
 
 -- the magnifiers and rule 12 go by one h
 pub same-height : (s : List ℕ) → full-height (silo-of s) ≡ h-of s
@@ -84,20 +85,18 @@ module _ (s : List ℕ) (a : Accepted s) where
   unfolding edge-of
   edges-down k m h = sum-under (strakes-of s) k m h
 
-two-records : (s : List ℕ) → Accepted s → place s 2 ≤ length s
+pub two-records : (s : List ℕ) → Accepted s → place s 2 ≤ length s
 unfolding place payload-length
 two-records s a = a .layout .present 1 (omega (arith, six-least s))
-
-pub section-length : (s : List ℕ) → Layout s → 4 ≤ payload-length s 0
-section-length s l = ⊎-elim (λ k. omega (arith, l .circle-length k)) (λ k. omega (arith, l .rectangle-length k)) (l .section-kind)
 
 -- section and product of two accepted sheets with equal first records
 module _ (s s' : List ℕ) (a : Accepted s) (a' : Accepted s') (e : SameSectionAndProduct s s') where
   section-equal : section-of s ≡ section-of s'
-  section-equal = same-section s s' (two-records s a) (two-records s' a') e (section-length s (a .layout)) (a .layout .product-length)
+  section-equal = section-same s s' (a .layout) (first-record s s' (two-records s a) (two-records s' a') e)
 
   product-equal : product-of s ≡ product-of s'
-  product-equal = same-product s s' (two-records s a) (two-records s' a') e (section-length s (a .layout)) (a .layout .product-length)
+  unfolding product-of
+  product-equal = rw (product-same s s' (a .layout) (second-record s s' (two-records s a) (two-records s' a') e)) refl
 
   -- a load of filling of the other silo is no smaller at a greater depth below the surface
   number-more : {l : Load} → OfFilling l → (i j : ℕ) → j < depth-count s' → load-depth (silo-of s) (depth s i) ≤ load-depth (silo-of s') (depth s' j)

@@ -6,4 +6,6 @@ pub mod Demand
 pub mod Edges
 pub mod Whole
 pub mod Call
+pub mod OneSilo
 pub mod Headroom
+pub mod Factor

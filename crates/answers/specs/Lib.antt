@@ -3,4 +3,5 @@ pub mod Length
 pub mod Answers
 pub mod Claim
 pub mod Promise
+pub mod Factor
 pub mod program

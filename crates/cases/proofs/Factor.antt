@@ -1,34 +1,48 @@
--- C0 0 acts as 135: the two sheets describe one silo with the same depths and strakes, so what fills the answer list of the one fills that of
--- the other, and `Filled` leaves no number open.
+-- C0 0 acts as 155, since that is what the sheet is with 155 written in; and not as 135, since p_he at 5,000 differs.
 use Prim.Native.Nat.{ℕ}
 use mathlib.Core.List.{List}
-use mathlib.Core.Path.{_≡_, refl}
-use Rattle.records.specs.Rules.{first-unmet}
-use Rattle.records.specs.Format.{u16, u32, numbers, place, kind, payload, payload-length, allowed, record-rules, records-rules, record-count, layout-rules}
-use Rattle.janssen.specs.Section.{side-a, side-b, d-c}
-use Rattle.janssen.specs.Numbers.{FillingNumbers}
-use Rattle.description.specs.Silo.{section-of, product-sent, product-of, factor-read, eccentricities-of, bottom-of, strake-count, strakes-of, depth-count, depths-of, sum, V-of, headroom-of, h-of, edge-of}
-use Rattle.sheet.specs.Refusal.{sides-met, strakes-met, depths-met, value-rules, sheet-rules}
-use Rattle.answers.specs.Length.{length-due}
-use Rattle.answers.specs.Answers.{Filled, loads-rules}
+use mathlib.Core.Path.{_≡_, refl, ap, sym, _∙_, subst}
+use native.Mathlib.Omega.{arith}
+use lib.Dec.{ltb→lt, leb→le}
+use lib.ListN.{getD}
+use Rattle.fraction.specs.Fraction.{up}
+use Rattle.exponential.specs.program.Table.{table}
+use Rattle.exponential.specs.program.Lower.{lower, between, denominator, entry}
+use Rattle.janssen.specs.Section.{side-a, side-b, d-c, R}
+use Rattle.janssen.specs.Filling.{Ks, μ, z0, q, γR, P}
+use Rattle.janssen.specs.program.Pressure.{step, limit, decay, pressure, filling, computed}
+use Rattle.discharge.specs.Discharge.{magnifier, magnified-load}
+use Rattle.records.specs.Format.{u16, u32, numbers, place, kind, payload, payload-length, record-count}
+use Rattle.description.specs.Silo.{section-of, product-sent, product-of, factor-read, eccentricities-of, bottom-of, strake-count, strakes-of, depth-count, depths-of, sum, V-of, headroom-of}
+use Rattle.loads.specs.Load.{load-depth, number}
+use Rattle.loads.specs.Load.Load.{p-he}
+use Rattle.answers.specs.Answers.{silo-of, depth}
 use Rattle.answers.specs.Promise.{Promise}
-use Rattle.answers.proofs.Call.{same-call}
-use Rattle.cases.specs.Cases.{case-sheet, five}
+use Rattle.answers.specs.Factor.{with-factor, Blank}
+use Rattle.answers.proofs.Factor.{acts-as-155}
+use Rattle.cases.specs.Cases.{case-sheet, factor-sheet}
 
-abbrev with-0 : List ℕ
-with-0 = case-sheet 40 0 0 0 0 five
+blank : Blank (factor-sheet 0)
+unfolding case-sheet place payload payload-length u16 u32 product-sent
+blank = record { ten = refl; inside = leb→le _ _ tt; blank = refl }
 
-abbrev with-135 : List ℕ
-with-135 = case-sheet 40 135 0 0 0 five
+written : with-factor 155 (factor-sheet 0) ≡ factor-sheet 155
+unfolding with-factor case-sheet payload place u16
+written = refl
 
-same-answer : (n : ℕ) → first-unmet (loads-rules with-0 n) ≡ first-unmet (loads-rules with-135 n)
-unfolding case-sheet loads-rules sheet-rules value-rules first-unmet layout-rules record-count records-rules record-rules allowed place payload payload-length kind u16 u32 numbers section-of product-sent eccentricities-of bottom-of strake-count strakes-of depth-count depths-of sum V-of headroom-of h-of sides-met strakes-met depths-met side-a side-b d-c length-due
-same-answer n = refl
+pub same-as-155 : (lent left left' : List ℕ) (r r' : ℕ) → Promise computed (factor-sheet 0) lent r left → Promise computed (factor-sheet 155) lent r' left'
+    → (r ≡ r') × (left ≡ left')
+same-as-155 lent left left' r r' a b =
+    acts-as-155 (factor-sheet 0) blank computed lent left left' r r' a (subst (λ (s : List ℕ). Promise computed s lent r' left') (sym written) b)
 
-module _ (f : FillingNumbers) (lent left left' : List ℕ) (r r' : ℕ) where
-  same-filled : Filled f with-0 left → Filled f with-135 left
-  unfolding case-sheet place payload payload-length kind u16 u32 numbers section-of product-sent product-of factor-read eccentricities-of bottom-of strake-count strakes-of depth-count depths-of sum V-of headroom-of record-count edge-of length-due
-  same-filled a = record { due = a .due; at-depths = a .at-depths; at-bottom = a .at-bottom; at-strakes = a .at-strakes }
+-- p_he of the second depth, 5,000
+p-he-beside : (number computed (silo-of (factor-sheet 0)) p-he (depth (factor-sheet 0) 1) ≡ 27276) × (number computed (silo-of (factor-sheet 135)) p-he (depth (factor-sheet 135) 1) ≡ 23756)
+unfolding case-sheet place payload payload-length kind u16 u32 numbers section-of product-sent product-of factor-read eccentricities-of bottom-of strake-count strakes-of depth-count depths-of sum V-of headroom-of record-count load-depth magnifier magnified-load filling pressure decay limit step P q z0 γR R Ks μ up lower between denominator entry table side-a side-b d-c
+p-he-beside = (refl, refl)
 
-  pub acts-as-135 : Promise f with-0 lent r left → Promise f with-135 lent r' left' → (r ≡ r') × (left ≡ left')
-  acts-as-135 a b = same-call f with-0 with-135 same-answer (λ _. same-filled) a b
+pub other-than-135 : (lent left left' : List ℕ) → Promise computed (factor-sheet 0) lent 0 left → Promise computed (factor-sheet 135) lent 0 left' → left ≡ left' → ⊥
+unfolding case-sheet place payload-length u16 depth-count
+other-than-135 lent left left' a b e =
+    let x : getD left 13 0 ≡ 27276 = a .filled refl .at-depths p-he 1 (ltb→lt _ _ tt) ∙ p-he-beside .0 in
+    let y : getD left' 13 0 ≡ 23756 = b .filled refl .at-depths p-he 1 (ltb→lt _ _ tt) ∙ p-he-beside .1 in
+    omega (arith, sym x ∙ ap (λ (l : List ℕ). getD l 13 0) e ∙ y)

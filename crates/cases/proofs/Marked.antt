@@ -6,7 +6,7 @@ use lib.Dec.{ltb, leb, lit<, ltb→lt, leb→le}
 use lib.ListN.{take, drop, replicate}
 use mathlib.Core.List.{List, [], _∷_}
 use mathlib.Core.Path.{_≡_, refl, ap, ap₂, _∙_}
-use Rattle.fraction.specs.Fraction.{up}
+use Rattle.fraction.specs.Fraction.{_⊘_, up}
 use Rattle.exponential.specs.program.Table.{table}
 use Rattle.exponential.specs.program.Lower.{lower, between, denominator, entry}
 use Rattle.janssen.specs.declared.Section.the-variants.{Circle}
@@ -30,7 +30,7 @@ use Rattle.answers.specs.Answers.{silo-of}
 use Rattle.answers.proofs.Demand.{same-height}
 use Rattle.cases.specs.Cases.{case-sheet, case-product, case-silo, middle-number, OfHeight, Marked}
 use Rattle.cases.proofs.Pairs.{filling-pair, wall-load-pair}
-use Rattle.cases.proofs.Factor.{acts-as-135}
+use Rattle.cases.proofs.Factor.{same-as-155, other-than-135}
 
 -- the rules before 12 are passed over, and the shape is judged by h alone
 by-shape : (h : ℕ) (s : List ℕ) → OfHeight h s → refusal-of s ≡ first-unmet (12 unless ltb h 50000 ∷ [])
@@ -130,5 +130,8 @@ marked =
       friction-0 = refl;
       factor-99 = refl;
       factor-0 = refl;
-      factor-135 = acts-as-135 computed;
+      factor-155 = same-as-155;
+      blank-discharge = λ g e. (ap (magnified-load (155 ⊘ 100)) e, ap (λ (x : ℕ). patch-load 0 5000 (magnified-load (155 ⊘ 100) x)) e);
+      discharge-135 = λ g e. (ap (magnified-load (135 ⊘ 100)) e, ap (λ (x : ℕ). patch-load 0 5000 (magnified-load (135 ⊘ 100) x)) e);
+      factor-135 = other-than-135;
     }

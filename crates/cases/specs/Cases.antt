@@ -1,4 +1,4 @@
--- Document 01, "Cases": those marked (m), as one statement; of document 02 those of C-11 and C-13. A circle of 5,000, γ 9,000, Ks 50, depths 0 and 5,000.
+-- Document 01, "Cases": those marked (m), as one statement; of document 02 those of C-11, C-13 and C-14. A circle of 5,000, γ 9,000, Ks 50, depths 0 and 5,000.
 use Prim.Native.Nat.{ℕ}
 use mathlib.Core.List.{List, [], _∷_, _++_}
 use mathlib.Core.Logic.{_⊎_}
@@ -42,9 +42,13 @@ case-sheet friction factor e H r strakes =
 abbrev pub five : List ℕ
 five = 2000 ∷ 2000 ∷ 2000 ∷ 2000 ∷ 2000 ∷ []
 
+-- the sheet of the cases with another C0
+abbrev pub factor-sheet : ℕ → List ℕ
+factor-sheet C0 = case-sheet 40 C0 0 0 0 five
+
 -- the sheet of the cases with bytes behind its sixth record
 abbrev pub followed-by : List ℕ → List ℕ
-followed-by t = case-sheet 40 140 0 0 0 five ++ t
+followed-by t = factor-sheet 140 ++ t
 
 -- a sheet of that h with d_c = 5,000 that no rule before 12 refuses: 1 to 5 on its records, and the first seven on its values
 pub record OfHeight (h : ℕ) (s : List ℕ) : Type 0 where
@@ -79,7 +83,7 @@ middle-number p-p = 4928
 -- f names the filling pressures and P_w, as in the load call's promise
 pub record Marked (f : FillingNumbers) : Type 0 where
   -- the silo that the sheet of the cases describes
-  pub described : silo-of (case-sheet 40 140 0 0 0 five) ≡ case-silo
+  pub described : silo-of (factor-sheet 140) ≡ case-silo
   -- P for p_hf is 31,250
   pub deep-limit : (P horizontal (Circle 5000) case-product ⪯ whole 31250) × (whole 31250 ⪯ P horizontal (Circle 5000) case-product)
   -- z = 0 gives 0
@@ -122,8 +126,14 @@ pub record Marked (f : FillingNumbers) : Type 0 where
   pub friction-10 : refusal-of (case-sheet 10 140 0 0 0 five) ≡ 0
   pub friction-9 : refusal-of (case-sheet 9 140 0 0 0 five) ≡ 7
   pub friction-0 : refusal-of (case-sheet 0 140 0 0 0 five) ≡ 7
-  pub factor-99 : refusal-of (case-sheet 40 99 0 0 0 five) ≡ 7
-  -- C0 0 acts as 135: accepted; lent the same list, the load call answers the same and leaves the same list
-  pub factor-0 : refusal-of (case-sheet 40 0 0 0 0 five) ≡ 0
-  pub factor-135 : (lent left left' : List ℕ) (r r' : ℕ) → Promise f (case-sheet 40 0 0 0 0 five) lent r left
-      → Promise f (case-sheet 40 135 0 0 0 five) lent r' left' → (r ≡ r') × (left ≡ left')
+  pub factor-99 : refusal-of (factor-sheet 99) ≡ 7
+  -- C0 0 acts as 155 (document 02, C-14): accepted; lent the same list, the load call answers the same and leaves the same list
+  pub factor-0 : refusal-of (factor-sheet 0) ≡ 0
+  pub factor-155 : (lent left left' : List ℕ) (r r' : ℕ) → Promise f (factor-sheet 0) lent r left → Promise f (factor-sheet 155) lent r' left'
+      → (r ≡ r') × (left ≡ left')
+  -- and no longer as 135: p_hf 17,597 gives p_he 27,276 and p_p 5,456, beside 23,756 and 4,752; the lists left differ
+  pub blank-discharge : (g : FillingNumbers) → number g (silo-of (factor-sheet 0)) p-hf 5000 ≡ 17597
+      → (number g (silo-of (factor-sheet 0)) p-he 5000 ≡ 27276) × (number g (silo-of (factor-sheet 0)) p-p 5000 ≡ 5456)
+  pub discharge-135 : (g : FillingNumbers) → number g (silo-of (factor-sheet 135)) p-hf 5000 ≡ 17597
+      → (number g (silo-of (factor-sheet 135)) p-he 5000 ≡ 23756) × (number g (silo-of (factor-sheet 135)) p-p 5000 ≡ 4752)
+  pub factor-135 : (lent left left' : List ℕ) → Promise f (factor-sheet 0) lent 0 left → Promise f (factor-sheet 135) lent 0 left' → left ≡ left' → ⊥

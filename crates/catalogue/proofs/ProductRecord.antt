@@ -4,34 +4,20 @@ use Prim.Native.Nat.{ℕ, zero, suc, _+_, _*_, _/_, _%_, _≤_, _<_}
 use mathlib.Core.Bool.{Bool, true, _&&_, _||_}
 use mathlib.Core.List.{List, [], _∷_, _++_}
 use mathlib.Core.Logic.{_⊎_, inl, inr}
-use mathlib.Core.Path.{_≡_, refl, ap, ap₂, _∙_}
+use mathlib.Core.Path.{_≡_, refl, ap, _∙_}
 use native.Mathlib.Omega.{arith}
 use borrow.Author.Tests.{eqb-true, le-leb}
 use lib.Dec.{eqb}
 use lib.ListN.{length, getD, length-append}
-use lib.Seq.{getD-append-add}
 use Rattle.janssen.specs.declared.Product.{Product}
 use Rattle.records.specs.Rules.{within, first-unmet}
 use Rattle.records.specs.Format.{u16, u32, place, payload, allowed, record-rules}
 use Rattle.records.proofs.Tests.{absurd, both-true, either-true, within-true}
+use Rattle.records.proofs.Followed.{u16-behind, u32-behind}
 use Rattle.description.specs.Silo.{product-sent}
 use Rattle.sheet.specs.Refusal.{product-met}
 use Rattle.catalogue.specs.declared.Material.{Material}
 use Rattle.catalogue.specs.Table.{material, materials, row-of, product-for, record-of}
-
--- numbers behind a list of other bytes
-module _ (p l : List ℕ) where
-  u16-behind : (n : ℕ) → u16 (p ++ l) (length p + n) ≡ u16 l n
-  unfolding u16
-  u16-behind n =
-      let e : length p + n + 1 ≡ length p + (n + 1) = omega arith in
-      ap₂ (λ a b. a + 256 * b) (getD-append-add p l n 0) (ap (λ k. getD (p ++ l) k 0) e ∙ getD-append-add p l (n + 1) 0)
-
-  u32-behind : (n : ℕ) → u32 (p ++ l) (length p + n) ≡ u32 l n
-  unfolding u32
-  u32-behind n =
-      let e : length p + n + 2 ≡ length p + (n + 2) = omega arith in
-      ap₂ (λ a b. a + 65536 * b) (u16-behind n) (ap (u16 (p ++ l)) e ∙ u16-behind (n + 2))
 
 -- a test on every row of the table
 all : (Material → Bool) → List Material → Bool

@@ -1,4 +1,4 @@
--- The silo that a sheet describes. Document 01, "Sheet"; document 02, C-13.
+-- The silo that a sheet describes. Document 01, "Sheet"; document 02, C-13 and C-14.
 use Prim.Native.Nat.{ℕ, _+_, _-_, _/_}
 use mathlib.Core.Bool.{cond}
 use mathlib.Core.List.{List, [], _∷_}
@@ -22,9 +22,9 @@ unfoldable pub product-sent : List ℕ → Product
 product-sent s =
     record { weight = u32 s (payload s 1); ratio = u16 s (payload s 1 + 4); friction = u16 s (payload s 1 + 6); factor = u16 s (payload s 1 + 8) }
 
--- the factor C0 = 0 is read as 135
+-- the factor C0 = 0 is read as 155 (source 001, equation 7.4 at 40°)
 unfoldable pub factor-read : ℕ → ℕ
-factor-read c = cond (eqb c 0) 135 c
+factor-read c = cond (eqb c 0) 155 c
 
 unfoldable pub product-of : List ℕ → Product
 product-of s =

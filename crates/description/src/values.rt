@@ -49,11 +49,11 @@ pub fn read_product(sheet: &[u8], at: usize) -> Product
     }
 }
 
-// A factor C0 of 0 is read as 135 hundredths.
+// A factor C0 of 0 is read as 155 hundredths.
 fn factor_read(sent: u64) -> u64
     ensures { λ r. ⌜ r ≡ factor-read sent ⌝ }
 {
-    if sent == 0 { 135 } else { sent }
+    if sent == 0 { 155 } else { sent }
 }
 
 // The product as its loads see it.

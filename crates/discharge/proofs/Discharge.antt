@@ -1,4 +1,4 @@
--- The loads of wall and flat floor: each fits its type, never falls when its pressure grows, and keeps its allowance. A formula keeps
+-- The loads of wall and flat floor: each fits its type, never falls when its pressure or its magnifier grows, and keeps its allowance. A formula keeps
 -- the order of its pressure, and so does rounding up: that is the upper side. The lower side, at v = p - 2, adds up what is lost:
 -- 2·C0 + 1 ≤ 5, 1.1·2 + 1 < 4, 0.4·5 + 1 ≤ 3, 1.2·2 + 1 < 4.
 use Prim.Native.Nat.{ℕ, _+_, _*_, _^_, _≤_, _<_}
@@ -6,7 +6,7 @@ use mathlib.Core.Path.{_≡_}
 use native.Mathlib.Omega.{arith}
 use native.Mathlib.Nat.{le-of-lt, mul-one, mul-pos, mul-le-mul, mul-le-mul-left, mul-le-mul-right, mul-lt-mul-of-pos-right}
 use Rattle.fraction.specs.Fraction.{Fraction, _⊘_, whole, _⊕_, _⊗_, _⪯_, _≺_, up}
-use Rattle.fraction.proofs.Order.{⪯-trans}
+use Rattle.fraction.proofs.Order.{⪯-trans, ⊗-mono}
 use Rattle.fraction.proofs.Up.{up-lt, up-le, up-mono, up-above, up-same}
 use Rattle.allowance.specs.Allowance.{Lower, Allowance}
 use Rattle.allowance.proofs.LowerLaws.{Filled, allowed}
@@ -39,10 +39,10 @@ patch-load-divided e d h hd =
 patch-proper : (e d : ℕ) → 0 < d → 0 < ((2 ⊘ 10) ⊗ β e d) .bottom
 patch-proper e d hd = omega arith
 
--- never falling
-pub magnified-load-mono : (C : Fraction) → 0 < C .bottom → {p p' : ℕ} → p ≤ p' → magnified-load C p ≤ magnified-load C p'
+-- never falling, as pressure and magnifier grow
+pub magnified-load-mono : {C C' : Fraction} → C ⪯ C' → {p p' : ℕ} → p ≤ p' → magnified-load C p ≤ magnified-load C' p'
 unfolding magnified-load
-magnified-load-mono C pos h = up-mono (scaled C pos (wholes h))
+magnified-load-mono c h = up-mono (⊗-mono c (wholes h))
 
 pub patch-load-mono : (e d : ℕ) {h h' : ℕ} → 0 < d → h ≤ h' → patch-load e d h ≤ patch-load e d h'
 unfolding patch-load

@@ -7,9 +7,9 @@ use native.Mathlib.Decide.{decLe, decLt}
 use native.Mathlib.Nat.{mul-le-mul-left, mul-le-mul-right}
 use borrow.Author.Tests.{lt-ltb, le-ltb, le-leb, lt-leb}
 use Rattle.fraction.specs.Fraction.{Fraction, whole, _⪯_}
-use Rattle.fraction.proofs.Order.{compare, same}
+use Rattle.fraction.proofs.Order.{compare, same, ⪯-refl}
 use Rattle.janssen.specs.Filling.{hundredths}
-use Rattle.discharge.specs.Discharge.{squat-magnifier, magnifier}
+use Rattle.discharge.specs.Discharge.{squat-magnifier, magnifier, horizontal-magnifier}
 use Rattle.discharge.specs.program.Magnifier.{held, Moderate}
 
 -- the three cases
@@ -72,3 +72,21 @@ module _ (C h d : ℕ) (least : 100 ≤ C) (pos : 0 < d) where
         small = by-kind C (2 * (C - 100)) h d (λ m. m .bottom ≤ 2 ^ 30) (omega arith) (λ s w. omega arith) (omega arith);
         most = omega (arith, under .order, mul-le-mul-right (magnifier C (2 * (C - 100)) h d .bottom) most);
       }
+
+-- a greater C0 never has the smaller C_h
+pub horizontal-magnifier-mono : (h d : ℕ) → 0 < d → {C C' : ℕ} → 100 ≤ C → C ≤ C' → horizontal-magnifier C h d ⪯ horizontal-magnifier C' h d
+horizontal-magnifier-mono h d pos {C} {C'} least more = at (decLe (3 * d) (2 * h)) (decLt d h)
+  where
+    x : ℕ
+    x = 2 * (C - 100)
+
+    x' : ℕ
+    x' = 2 * (C' - 100)
+
+    at : Dec (3 * d ≤ 2 * h) → Dec (d < h) → magnifier C x h d ⪯ magnifier C' x' h d
+    at (yes s) _ = rw (slender C x h d s, slender C' x' h d s) (compare (omega arith) (omega arith) (omega arith))
+    at (no s) (yes w) =
+        let rate : x ≤ x' = omega arith in
+        rw (squat-high C x h d (omega arith) w, squat-high C' x' h d (omega arith) w)
+        (compare (omega arith) (omega arith) (omega (arith, mul-le-mul-right (100 * d) (mul-le-mul-right (h - d) rate))))
+    at (no s) (no w) = rw (squat-low C x h d (omega arith) (omega arith), squat-low C' x' h d (omega arith) (omega arith)) (⪯-refl (whole 1) (omega arith))

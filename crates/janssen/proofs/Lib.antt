@@ -8,3 +8,4 @@ pub mod WallLoadLaws
 pub mod PreparedNumbers
 pub mod Ready
 pub mod WallLoadOrder
+pub mod WithFactor

@@ -7,6 +7,7 @@ use native.Mathlib.Omega.{arith}
 use borrow.Author.Tests.{eq-eqb, ne-eqb}
 use lib.ListN.{getD, replicate, getD-replicate}
 use Rattle.fraction.specs.Fraction.{whole, _⪯_}
+use Rattle.fraction.proofs.Order.{⪯-refl}
 use Rattle.janssen.specs.Section.{d-c}
 use Rattle.janssen.specs.Filling.{Kind, hundredths, factors, q, P}
 use Rattle.janssen.specs.Filling.Kind.{horizontal, vertical, wall-friction}
@@ -82,7 +83,7 @@ module _ (c : Silo) (fits : Fits c) where
       → Filled (P k (c .section) (c .product)) (q (factors k) (c .section) (c .product) (load-depth c depth)) (pressure-at computed c k depth)
   filled-at k depth d = filled-by-band (band-at k depth d)
 
-  dc-positive : 0 < d-c (c .section)
+  pub dc-positive : 0 < d-c (c .section)
   dc-positive = d-c-positive (c .section) (c .product) (fits .range)
 
   pub dc-most : d-c (c .section) ≤ 50000
@@ -130,11 +131,11 @@ module _ (c : Silo) (fits : Fits c) where
     rises-by p-wf h g = filling-down of-p-wf h
     rises-by p-vf h g = filling-down of-p-vf h
     rises-by P-w h g = filling-down of-P-w h
-    rises-by p-he h g = magnified-load-mono (C-h c) (C-h-moderate .proper) (filling-down of-p-hf h)
-    rises-by p-we h g = magnified-load-mono (C-w c) (C-w-moderate .proper) (filling-down of-p-wf h)
+    rises-by p-he h g = magnified-load-mono (⪯-refl (C-h c) (C-h-moderate .proper)) (filling-down of-p-hf h)
+    rises-by p-we h g = magnified-load-mono (⪯-refl (C-w c) (C-w-moderate .proper)) (filling-down of-p-wf h)
     rises-by p-p h g =
         patch-load-mono (c .eccentricity) (d-c (c .section)) dc-positive
-        (magnified-load-mono (C-h c) (C-h-moderate .proper) (filling-down of-p-hf h))
+        (magnified-load-mono (⪯-refl (C-h c) (C-h-moderate .proper)) (filling-down of-p-hf h))
 
     pub rises-below : (l : Load) → (l ≡ listed-depth → ⊥) → load-depth c depth ≤ load-depth c depth' → number computed c l depth ≤ number computed c l depth'
     rises-below l n h = rises-by l h (λ e. absurd (n e))

@@ -15,7 +15,7 @@ use Rattle.records.specs.Format.{u16, u32, place, record-rules, records-
 use Rattle.records.proofs.Tests.{absurd}
 use Rattle.records.proofs.Chain.{apart, skipped, stopped}
 use Rattle.records.proofs.Records.{place-next, place-most, record-numbered, six-records, seven-records}
-use Rattle.records.proofs.Alike.{u16-same, place-same}
+use Rattle.records.proofs.Alike.{SameBytes, SameRecord, u16-same, place-same, record-same}
 
 -- the rules of what stands behind the sixth record, judged by itself
 abbrev pub seventh-rules : List ℕ → List Rule
@@ -49,15 +49,18 @@ module _ (s t : List ℕ) where
   unfolding u32
   u32-behind n = let e : length s + n + 2 ≡ length s + (n + 2) = omega arith in rw (e, u16-behind n, u16-behind (n + 2)) refl
 
-  pub same-bytes : (i : ℕ) → i < length s → getD s i 0 ≡ getD (s ++ t) i 0
-  same-bytes i h = sym (List·getD-append s t 0 i h)
+  same-bytes : SameBytes s (s ++ t) 0 (length s)
+  same-bytes i _ h = sym (List·getD-append s t 0 i h)
 
   module _ (six : place s 6 ≡ length s) where
-    pub place-inside : (k n : ℕ) → k + n ≡ 6 → place s k ≤ length s
+    place-inside : (k n : ℕ) → k + n ≡ 6 → place s k ≤ length s
     place-inside k n e = omega (arith, six, subst (λ (m : ℕ). place s k ≤ place s m) e (place-most s k n))
 
     pub place-kept : (k n : ℕ) → k + n ≡ 6 → place s k ≡ place (s ++ t) k
     place-kept k n e = place-same s (s ++ t) (length s) same-bytes k (place-inside k n e)
+
+    pub record-kept : (k n : ℕ) → k + suc n ≡ 6 → SameRecord s (s ++ t) k
+    record-kept k n e = record-same s (s ++ t) (length s) same-bytes k (place-inside (k + 1) n (omega (arith, e)))
 
     -- each of the six records is judged alike
     rules-kept : (k n : ℕ) → k + suc n ≡ 6 → record-rules (s ++ t) (place (s ++ t) k) k ≡ record-rules s (place s k) k
@@ -67,11 +70,10 @@ module _ (s t : List ℕ) where
         let inside = place-inside (k + 1) n (omega (arith, e)) in
         let next = place-next s k in
         let all : length (s ++ t) ≡ length s + length t = length-append s t in
-        let same : (i : ℕ) → i < length s → getD s i 0 ≡ getD (s ++ t) i 0 = same-bytes in
         rw (
           sym (place-kept k (suc n) e),
-          sym (u16-same s (s ++ t) (length s) same a (omega (arith, inside, next))),
-          sym (u16-same s (s ++ t) (length s) same (a + 2) (omega (arith, inside, next))),
+          sym (u16-same s (s ++ t) 0 (length s) same-bytes a (omega arith) (omega (arith, inside, next))),
+          sym (u16-same s (s ++ t) 0 (length s) same-bytes (a + 2) (omega arith) (omega (arith, inside, next))),
           le-leb (a + 4) (length (s ++ t)) (omega (arith, inside, next, all)),
           le-leb (a + 4) (length s) (omega (arith, inside, next)),
           le-leb (a + 4 + u16 s a) (length (s ++ t)) (omega (arith, inside, next, all)),

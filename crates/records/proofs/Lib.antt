@@ -6,3 +6,4 @@ pub mod Numbers
 pub mod Walks
 pub mod Stores
 pub mod Followed
+pub mod Written

@@ -2,3 +2,4 @@ pub mod Heights
 pub mod Layouts
 pub mod Acceptance
 pub mod Described
+pub mod Parts

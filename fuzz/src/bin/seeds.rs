@@ -1,8 +1,9 @@
 //! seeds FOLDER: writes inputs for the fuzzer to start from, a file each: accepted sheets, damaged ones, silos of each kind of discharge
-//! factors, headrooms, the numbers of a catalogue call, and strake lists.
+//! factors with C0 written and blank, headrooms, the numbers of a catalogue call, and strake lists.
 
 use reference::inputs::{self, Random};
 use reference::limits::{of_height, under_headroom};
+use reference::sheet::Silo;
 
 const SILOS: u64 = 24;
 /// h over a d_c of 5,000: low, as high as wide, squat, and slender from its limit on.
@@ -19,7 +20,10 @@ fn main() {
     let mut random = Random::new(1_991);
     let mut inputs = vec![CATALOGUE.to_vec()];
     inputs.extend(STRAKES.map(<[u8]>::to_vec));
-    inputs.extend(HEIGHTS.map(|height| of_height(&[5_000], height, (0, 0)).sheet()));
+    for height in HEIGHTS {
+        let silo = of_height(&[5_000], height, (0, 0));
+        inputs.extend([silo.sheet(), Silo { factor: 0, ..silo }.sheet()]);
+    }
     inputs.extend(HEADROOMS.map(|(height, g)| under_headroom(&[5_000], height, (0, 0), g).sheet()));
     for _ in 0..SILOS {
         let silo = inputs::silo(&mut random);

@@ -6,6 +6,7 @@ use crate::description::{Description, Product, Section};
 use crate::discharge::Discharge;
 use crate::name::Name;
 use crate::number::hundredths;
+use crate::report::BLANK_ANGLE;
 
 /// Lines that read as the same sheet; the first, of a silo that is calculated, says its kind.
 pub fn write(description: &Description) -> String {
@@ -45,7 +46,10 @@ fn product_lines(product: &Product) -> [(Name, String); 4] {
     let named = catalogue::name_of(product).map(|name| format!("  # as table 7.1 {name}"));
     let ratio = |number: u16| hundredths(number.into());
     let blank = match product.factor {
-        0 => format!("  # blank: the library takes {}", ratio(product.factor_used())),
+        0 => format!(
+            "  # blank: taken as {} ({BLANK_ANGLE}); a soft product, up to 30, needs 1.35",
+            ratio(product.factor_used())
+        ),
         _ => String::new(),
     };
     [

@@ -1,0 +1,202 @@
+-- What a blank factor means (document 02, C-14), and what C0 moves.
+--     blank-refusal      C0 = c written in, 100 to 200: the same refusal
+--     acts-as-155        155 written in: the load call answers the same and leaves the same list; the length call too (`blank-length`)
+--     smaller-factor     a smaller C0 written in: no greater p_he, patch or strake load, and every other load the same
+--     blank-beside-135   so of 135 written in
+-- The two bytes of C0 lie in the second record behind everything else that is read from it: nothing but C0 changes with them.
+-- Assumes nothing.
+use Prim.Native.Nat.{ℕ, suc, _+_, _/_, _%_, _≤_, _<_}
+use mathlib.Core.List.{List}
+use mathlib.Core.Path.{_≡_, refl, ap, ap₂, sym, _∙_, subst}
+use native.Mathlib.Omega.{arith}
+use borrow.Author.Tests.{le-leb, eq-eqb, ne-eqb}
+use lib.ListN.{length, getD, set, take, length-set}
+use lib.Seq.{getD-set-same, getD-set-other}
+use Rattle.janssen.specs.Numbers.{FillingNumbers}
+use Rattle.janssen.specs.program.Pressure.{computed}
+use Rattle.janssen.proofs.WithFactor.{product-with}
+use Rattle.records.specs.Rules.{first-unmet}
+use Rattle.records.specs.Format.{u16, u32, place, payload, payload-length, layout-rules}
+use Rattle.records.proofs.Records.{place-next, place-most}
+use Rattle.records.proofs.Alike.{SameBytes, SameRecord, u16-same, u32-same}
+use Rattle.records.proofs.Written.{place-written, other-record, layout-written}
+use Rattle.description.specs.Silo.{product-sent, product-of, factor-read, depth-count, V-of, headroom-of, edge-of, sum}
+use Rattle.description.proofs.Headroom.{headroom-read}
+use Rattle.sheet.specs.Refusal.{product-met, refusal-of}
+use Rattle.sheet.specs.Accepted.{Layout}
+use Rattle.sheet.proofs.Acceptance.{accepted}
+use Rattle.sheet.proofs.Described.{factor-in}
+use Rattle.sheet.proofs.Parts.{SameParts, same-parts, values-same, refusal-same}
+use Rattle.loads.specs.declared.Silo.{Silo}
+use Rattle.loads.specs.Load.{Load}
+use Rattle.loads.specs.Load.{number, bottom-numbers}
+use Rattle.loads.specs.Load.Load.{p-he, p-we, p-p}
+use Rattle.loads.proofs.WithFactor.{silo-with, number-with, p-we-with, bottom-with, p-he-less, p-p-less}
+use Rattle.answers.specs.Length.{answers-length}
+use Rattle.answers.specs.Answers.{silo-of, depth, load-in, strake-in}
+use Rattle.answers.specs.Claim.{LeftFor}
+use Rattle.answers.specs.Promise.{Promise}
+use Rattle.answers.specs.Factor.{with-factor, Blank, NoSmaller}
+use Rattle.answers.proofs.Demand.{two-records, silo-fits}
+use Rattle.answers.proofs.OneSilo.{OneSilo, one-length, one-call}
+
+module _ (s : List ℕ) (c : ℕ) (ten : payload-length s 1 ≡ 10) where
+  abbrev s' : List ℕ
+  s' = with-factor c s
+
+  size : length s ≡ length s'
+  unfolding with-factor
+  size = sym (length-set (set s (payload s 1 + 8) (c % 256)) (payload s 1 + 9) (c / 256 % 256) ∙ length-set s (payload s 1 + 8) (c % 256))
+
+  -- every byte but those of C0
+  apart : (i : ℕ) → (i ≡ payload s 1 + 8 → ⊥) → (i ≡ payload s 1 + 9 → ⊥) → getD s i 0 ≡ getD s' i 0
+  unfolding with-factor
+  apart i n m =
+      sym (getD-set-other (set s (payload s 1 + 8) (c % 256)) (payload s 1 + 9) i (c / 256 % 256) 0 m ∙ getD-set-other s (payload s 1 + 8) i (c % 256) 0 n)
+
+  before : SameBytes s s' 0 (place s 1 + 12)
+  unfolding payload
+  before i _ h = apart i (λ e. omega (arith, e, h)) (λ e. omega (arith, e, h))
+
+  after : (i : ℕ) → place s 1 + 14 ≤ i → getD s i 0 ≡ getD s' i 0
+  unfolding payload
+  after i h = apart i (λ e. omega (arith, e, h)) (λ e. omega (arith, e, h))
+
+  next : place s 2 ≡ place s 1 + 14
+  unfolding payload-length
+  next = omega (arith, place-next s 1, ten)
+
+  there : (k : ℕ) → place s k ≡ place s' k
+  there = place-written s s' 1 (place s 1 + 12) (place s 1 + 14) size (omega arith) (omega (arith, next)) before after
+
+  other : (k : ℕ) → (k ≡ 1 → ⊥) → SameRecord s s' k
+  other = other-record s s' 1 (place s 1 + 12) (place s 1 + 14) size (omega arith) (omega (arith, next)) before after
+
+  records-same : layout-rules s ≡ layout-rules s'
+  records-same = layout-written s s' 1 (place s 1 + 12) (place s 1 + 14) size (omega arith) (omega (arith, next)) before after
+
+  headroom-same : headroom-of s ≡ headroom-of s'
+  unfolding payload
+  headroom-same =
+      let a = place s 6 + 4 in
+      let four = u32-same s s' (place s 1 + 14) (a + 4) (λ i l _. after i l) a (omega (arith, next, most)) (omega arith) in
+      headroom-read s ∙ four ∙ ap (λ (p : ℕ). u32 s' (p + 4)) (there 6) ∙ sym (headroom-read s')
+    where
+      most : place s 2 ≤ place s 6
+      most = place-most s 2 4
+
+  -- what both describe, where the records are not refused
+  parts-kept : Layout s → SameParts s s'
+  parts-kept l = same-parts s s' l (λ k _ n. other k n) headroom-same
+
+  -- γ, Ks and μ are the same, and C0 is c
+  module _ (inside : place s 2 ≤ length s) (least : 100 ≤ c) (most : c ≤ 200) where
+    factor-back : u16 s' (place s 1 + 12) ≡ c
+    unfolding u16 with-factor payload
+    factor-back =
+        let a = place s 1 + 4 + 8 in
+        let b = place s 1 + 4 + 9 in
+        let e : place s 1 + 12 ≡ a = omega arith in
+        let f : a + 1 ≡ b = omega arith in
+        let low : getD (set (set s a (c % 256)) b (c / 256 % 256)) a 0 ≡ c % 256 =
+        getD-set-other (set s a (c % 256)) b a (c / 256 % 256) 0 (λ z. omega (arith, z)) ∙ getD-set-same s a (c % 256) 0 (omega (arith, inside, next)) in
+        let high : getD (set (set s a (c % 256)) b (c / 256 % 256)) b 0 ≡ c / 256 % 256 =
+        getD-set-same (set s a (c % 256)) b (c / 256 % 256) 0 (omega (arith, inside, next, length-set s a (c % 256))) in
+        rw (e, f, low, high) (omega (arith, most))
+
+    product-written : product-sent s' ≡ product-with c (product-sent s)
+    unfolding product-sent payload
+    product-written =
+        let at = place s 1 + 4 in
+        let two : (n : ℕ) → n + 2 ≤ place s 1 + 12 → u16 s n ≡ u16 s' n = λ n h. u16-same s s' 0 (place s 1 + 12) before n (omega arith) h in
+        let γ : u32 s at ≡ u32 s' at = u32-same s s' 0 (place s 1 + 12) before at (omega arith) (omega arith) in
+        let Ks : u16 s (at + 4) ≡ u16 s' (at + 4) = two (at + 4) (omega arith) in
+        let μ : u16 s (at + 6) ≡ u16 s' (at + 6) = two (at + 6) (omega arith) in
+        let e : at + 8 ≡ place s 1 + 12 = omega arith in
+        let C0 : u16 s' (at + 8) ≡ c = rw e factor-back in
+        rw (sym (there 1), γ, Ks, μ, C0) refl
+
+    product-of-written : product-of s' ≡ product-with c (product-of s)
+    unfolding product-of factor-read
+    product-of-written = rw product-written (simp (ne-eqb c 0 (λ e. omega (arith, e, least))))
+
+    silo-written : Layout s → silo-of s' ≡ silo-with c (silo-of s)
+    unfolding V-of
+    silo-written l =
+        let p = parts-kept l in
+        rw (product-of-written, sym (p .sections), sym (p .eccentricities), sym (p .bottoms), sym (p .strakes), sym (p .headrooms)) refl
+
+-- a blank factor beside c, 100 to 200
+module _ (s : List ℕ) (b : Blank s) (c : ℕ) (least : 100 ≤ c) (most : c ≤ 200) where
+  product-met-kept : product-met (product-sent s) ≡ product-met (product-sent (with-factor c s))
+  product-met-kept =
+      rw (product-written s c (b .ten) (b .inside) least most, b .blank)
+      (simp (ne-eqb c 0 (λ e. omega (arith, e, least)), le-leb 100 c least, le-leb c 200 most))
+
+  pub blank-refusal : refusal-of s ≡ refusal-of (with-factor c s)
+  blank-refusal =
+      refusal-same s (with-factor c s) (ap first-unmet (records-same s c (b .ten)))
+      (λ l. values-same s (with-factor c s) (parts-kept s c (b .ten) l) product-met-kept)
+
+-- a blank factor is 155
+blank-factor : (s : List ℕ) → product-sent s .factor ≡ 0 → product-of s .factor ≡ 155
+unfolding product-of factor-read
+blank-factor s e = simp (eq-eqb (product-sent s .factor) 0 e)
+
+module _ (s : List ℕ) (b : Blank s) where
+  abbrev written : List ℕ
+  written = with-factor 155 s
+
+  same-refusal : refusal-of s ≡ refusal-of written
+  same-refusal = blank-refusal s b 155 (omega arith) (omega arith)
+
+  same-silo : refusal-of s ≡ 0 → OneSilo s written
+  same-silo h =
+      let l = accepted s h .layout in
+      record {
+        parts = parts-kept s 155 (b .ten) l;
+        silos = sym (silo-written s 155 (b .ten) (b .inside) (omega arith) (omega arith) l ∙ ap (λ (n : ℕ). silo-with n (silo-of s)) (sym (blank-factor s (b .blank))));
+      }
+
+  pub blank-length : answers-length written ≡ answers-length s
+  blank-length = one-length s written same-refusal same-silo
+
+  pub acts-as-155 : (f : FillingNumbers) (lent left left' : List ℕ) (r r' : ℕ) → Promise f s lent r left → Promise f written lent r' left'
+      → (r ≡ r') × (left ≡ left')
+  acts-as-155 f lent left left' r r' p q = one-call s written same-refusal same-silo f p q
+
+-- a smaller C0 written into an accepted sheet
+module _ (s : List ℕ) (c : ℕ) (least : 100 ≤ c) (most : c ≤ product-of s .factor) (list list' : List ℕ) where
+  pub smaller-factor : LeftFor computed s list → LeftFor computed (with-factor c s) list' → NoSmaller s list (with-factor c s) list'
+  unfolding edge-of
+  smaller-factor a a' =
+      let ok = accepted s (a .accepted) in
+      let ten = ok .layout .product-length in
+      let s' = with-factor c s in
+      let two-hundred : c ≤ 200 = omega (arith, most, factor-in s ok .most) in
+      let inside : place s 2 ≤ length s = two-records s ok in
+      let silo : silo-of s' ≡ silo-with c (silo-of s) = silo-written s c ten inside least two-hundred (ok .layout) in
+      let m : SameParts s s' = parts-kept s c ten (ok .layout) in
+      let fits = silo-fits s ok in
+      let at : (l : Load) (i : ℕ) → i < depth-count s → load-in s' list' l i ≡ number computed (silo-with c (silo-of s)) l (depth s i) =
+      λ l i h. a' .filled .at-depths l i (subst (λ (n : ℕ). i < n) (m .depth-counts) h)
+      ∙ ap₂ (λ (x : Silo) (d : List ℕ). number computed x l (getD d i 0)) silo (sym (m .depths)) in
+      record {
+        p-he-no-smaller = λ i h. rw (at p-he i h, a .filled .at-depths p-he i h) (p-he-less c (silo-of s) fits least most (depth s i));
+        patch-no-smaller = λ i h. rw (at p-p i h, a .filled .at-depths p-p i h) (p-p-less c (silo-of s) fits least most (depth s i));
+        strakes-no-smaller =
+            λ k h.
+            let there : strake-in s' list' k ≡ number computed (silo-with c (silo-of s)) p-he (edge-of s (suc k)) =
+            a' .filled .at-strakes k (subst (λ (n : ℕ). k < n) (m .strake-counts) h)
+            ∙ ap₂ (λ (x : Silo) (d : List ℕ). number computed x p-he (sum (take (suc k) d))) silo (sym (m .strakes)) in
+            rw (there, a .filled .at-strakes k h) (p-he-less c (silo-of s) fits least most (edge-of s (suc k)));
+        filling-same = λ l o i h. a .filled .at-depths l i h ∙ sym (at l i h ∙ number-with c (silo-of s) o (depth s i));
+        p-we-same = λ i h. a .filled .at-depths p-we i h ∙ sym (at p-we i h ∙ p-we-with c (silo-of s) (depth s i));
+        bottom-same =
+            λ k h. a .filled .at-bottom k h
+            ∙ sym (a' .filled .at-bottom k h ∙ ap (λ (x : Silo). getD (bottom-numbers computed x) k 0) silo ∙ ap (λ (x : List ℕ). getD x k 0) (bottom-with c (silo-of s)));
+      }
+
+pub blank-beside-135 : (s : List ℕ) → product-sent s .factor ≡ 0 → (list list' : List ℕ) → LeftFor computed s list → LeftFor computed (with-factor 135 s) list'
+    → NoSmaller s list (with-factor 135 s) list'
+blank-beside-135 s blank list list' a a' = smaller-factor s 135 (omega arith) (omega (arith, blank-factor s blank)) list list' a a'

@@ -1,0 +1,91 @@
+-- Two sheets that are refused alike and, where they are accepted, describe one silo with the same wall and depths (`OneSilo`) have one answer: the length call
+-- answers the same (`one-length`), and the load call answers the same and leaves the same list (`one-call`).
+-- Assumes nothing.
+use Prim.Native.Nat.{ℕ, suc, _≤_, _<_}
+use mathlib.Core.List.{List, [], _∷_}
+use mathlib.Core.Path.{_≡_, refl, ap, ap₂, sym, _∙_, subst}
+use native.Mathlib.Decide.{decLe}
+use native.Mathlib.Omega.{arith}
+use borrow.Author.Tests.{ne-eqb}
+use lib.Dec.{eqb}
+use lib.ListN.{length, getD, take}
+use Rattle.janssen.specs.Numbers.{FillingNumbers}
+use Rattle.records.specs.Rules.{_unless_, first-unmet}
+use Rattle.description.specs.Silo.{edge-of, sum}
+use Rattle.sheet.specs.Refusal.{refusal-of}
+use Rattle.sheet.proofs.Parts.{SameParts}
+use Rattle.loads.specs.declared.Silo.{Silo}
+use Rattle.loads.specs.Load.{number, bottom-numbers}
+use Rattle.loads.specs.Load.Load.{p-he}
+use Rattle.answers.specs.Place.{load-place, bottom-place, strake-place}
+use Rattle.answers.specs.Length.{length-due, answers-length}
+use Rattle.answers.specs.Answers.{silo-of, Filled, loads-rules}
+use Rattle.answers.specs.Promise.{Promise}
+use Rattle.answers.proofs.Places.{filled-once}
+use Rattle.answers.proofs.Call.{last-rule, refused-answer, not-refused}
+
+-- the same silo, wall and depths
+pub record OneSilo (s s' : List ℕ) : Type 0 where
+  pub parts : SameParts s s'
+  pub silos : silo-of s ≡ silo-of s'
+
+module _ (s s' : List ℕ) where
+  due-same : SameParts s s' → length-due s ≡ length-due s'
+  unfolding length-due
+  due-same p = rw (p .depth-counts, p .strake-counts) refl
+
+  -- what fills the answers of the one fills those of the other
+  filled-same : OneSilo s s' → (f : FillingNumbers) (list : List ℕ) → Filled f s list → Filled f s' list
+  unfolding edge-of
+  filled-same o f list a =
+      let c = o .silos in
+      let m = o .parts in
+      record {
+        due = a .due ∙ due-same m;
+        at-depths =
+            λ l i h. ap (λ (n : ℕ). getD list (load-place n l i) 0) (sym (m .depth-counts))
+            ∙ a .at-depths l i (subst (λ (n : ℕ). i < n) (sym (m .depth-counts)) h)
+            ∙ ap₂ (λ (c : Silo) (d : List ℕ). number f c l (getD d i 0)) c (m .depths);
+        at-bottom =
+            λ k h. ap (λ (n : ℕ). getD list (bottom-place n k) 0) (sym (m .depth-counts))
+            ∙ a .at-bottom k h
+            ∙ ap (λ (c : Silo). getD (bottom-numbers f c) k 0) c;
+        at-strakes =
+            λ k h. ap (λ (n : ℕ). getD list (strake-place n k) 0) (sym (m .depth-counts))
+            ∙ a .at-strakes k (subst (λ (n : ℕ). k < n) (sym (m .strake-counts)) h)
+            ∙ ap₂ (λ (c : Silo) (d : List ℕ). number f c p-he (sum (take (suc k) d))) c (m .strakes);
+      }
+
+  module _ (refusals : refusal-of s ≡ refusal-of s') (one : refusal-of s ≡ 0 → OneSilo s s') where
+    due-by : refusal-of s ≡ 0 → length-due s ≡ length-due s'
+    due-by h = due-same (one h .parts)
+
+    length-by : Dec (refusal-of s ≤ 0) → answers-length s' ≡ answers-length s
+    unfolding answers-length
+    length-by (yes z) = let h : refusal-of s ≡ 0 = omega (arith, z) in rw (sym refusals, h, sym (due-by h)) refl
+    length-by (no z) = rw (sym refusals) (simp (ne-eqb (refusal-of s) 0 (λ o. z (omega (arith, o)))))
+
+    pub one-length : answers-length s' ≡ answers-length s
+    one-length = length-by (decLe (refusal-of s) 0)
+
+    answer-by : (n : ℕ) → Dec (refusal-of s ≤ 0) → first-unmet (loads-rules s n) ≡ first-unmet (loads-rules s' n)
+    answer-by n (yes z) =
+        let h : refusal-of s ≡ 0 = omega (arith, z) in
+        last-rule s n h ∙ ap (λ (m : ℕ). first-unmet (14 unless eqb n m ∷ [])) (due-by h) ∙ sym (last-rule s' n (sym refusals ∙ h))
+    answer-by n (no z) =
+        let h : refusal-of s ≡ 0 → ⊥ = λ o. z (omega (arith, o)) in
+        refused-answer s n h ∙ refusals ∙ sym (refused-answer s' n (λ o. h (refusals ∙ o)))
+
+    module _ (f : FillingNumbers) {lent left left' : List ℕ} {r r' : ℕ} (a : Promise f s lent r left) (b : Promise f s' lent r' left') where
+      answers-same : r ≡ r'
+      answers-same = a .answer ∙ answer-by (length lent) (decLe (refusal-of s) 0) ∙ sym (b .answer)
+
+      left-by : Dec (r ≤ 0) → left ≡ left'
+      left-by (yes z) =
+          let h : r ≡ 0 = omega (arith, z) in
+          let o : OneSilo s s' = one (not-refused s (length lent) (sym (a .answer) ∙ h)) in
+          filled-once f s' left left' (filled-same o f left (a .filled h)) (b .filled (sym answers-same ∙ h))
+      left-by (no n) = a .unchanged (λ z. n (omega (arith, z))) ∙ sym (b .unchanged (λ z. n (omega (arith, z, answers-same))))
+
+      pub one-call : (r ≡ r') × (left ≡ left')
+      one-call = (answers-same, left-by (decLe r 0))

@@ -1,0 +1,115 @@
+-- What two sheets describe alike. Each part of the silo is read from one record, so a record that both have at one place with equal bytes
+-- (`SameRecord`) makes its part the same; s has its records in order. With every part but the product the same (`SameParts`) the rules are the same but
+-- for 7 (`values-same`), and sheets with the same rules have the same refusal (`refusal-same`).
+use Prim.Native.Nat.{ℕ, _+_, _/_, _≤_, _<_}
+use mathlib.Core.List.{List}
+use mathlib.Core.Logic.{⊎-elim}
+use mathlib.Core.Path.{_≡_, refl, ap, sym, _∙_}
+use native.Mathlib.Decide.{decLe}
+use native.Mathlib.Omega.{arith}
+use Rattle.records.specs.Rules.{first-unmet}
+use Rattle.records.specs.Format.{u16, u32, place, kind, payload, payload-length, layout-rules}
+use Rattle.records.proofs.Records.{place-next}
+use Rattle.records.proofs.Alike.{SameRecord, two-in, four-in, payload-length-same, kind-same, pair-same, list-same}
+use Rattle.description.specs.Silo.{section-of, product-sent, eccentricities-of, bottom-of, strake-count, strakes-of, depth-count, depths-of, V-of, headroom-of, h-of}
+use Rattle.sheet.specs.Refusal.{product-met, value-rules, refusal-of}
+use Rattle.sheet.specs.Accepted.{Layout}
+use Rattle.sheet.proofs.Layouts.{layout-of}
+use Rattle.sheet.proofs.Acceptance.{records-refused, values-refused}
+
+module _ (s s' : List ℕ) (l : Layout s) where
+  module _ (r : SameRecord s s' 0) where
+    circle-same : kind s 0 ≡ 1 → section-of s ≡ section-of s'
+    unfolding section-of payload payload-length
+    circle-same k =
+        let end = place-next s 0 in
+        let a = four-in s s' 0 r (place s 0 + 4) (omega arith) (omega (arith, end, l .circle-length k)) in
+        rw (sym (kind-same s s' 0 r), k, a, r .there) refl
+
+    rectangle-same : kind s 0 ≡ 2 → section-of s ≡ section-of s'
+    unfolding section-of payload payload-length
+    rectangle-same k =
+        let p = pair-same s s' 0 r (l .rectangle-length k) in
+        rw (sym (kind-same s s' 0 r), k, p .0, p .1) refl
+
+    pub section-same : section-of s ≡ section-of s'
+    section-same = ⊎-elim circle-same rectangle-same (l .section-kind)
+
+  pub product-same : SameRecord s s' 1 → product-sent s ≡ product-sent s'
+  unfolding product-sent payload payload-length
+  product-same r =
+      let at = place s 1 + 4 in
+      let end : place s 2 ≡ place s 1 + 14 = omega (arith, place-next s 1, l .product-length) in
+      let γ : u32 s at ≡ u32 s' at = four-in s s' 1 r at (omega arith) (omega (arith, end)) in
+      let Ks : u16 s (at + 4) ≡ u16 s' (at + 4) = two-in s s' 1 r (at + 4) (omega arith) (omega (arith, end)) in
+      let μ : u16 s (at + 6) ≡ u16 s' (at + 6) = two-in s s' 1 r (at + 6) (omega arith) (omega (arith, end)) in
+      let C0 : u16 s (at + 8) ≡ u16 s' (at + 8) = two-in s s' 1 r (at + 8) (omega arith) (omega (arith, end)) in
+      rw (γ, Ks, μ, C0, r .there) refl
+
+  eccentricities-same : SameRecord s s' 2 → eccentricities-of s ≡ eccentricities-of s'
+  unfolding eccentricities-of
+  eccentricities-same r = let p = pair-same s s' 2 r (l .filling-length) in λ i. record { inlet = p .0 i; outlet = p .1 i }
+
+  bottom-same : SameRecord s s' 3 → bottom-of s ≡ bottom-of s'
+  unfolding bottom-of
+  bottom-same r = let p = pair-same s s' 3 r (l .bottom-length) in λ i. record { height = p .0 i; run = p .1 i }
+
+  strake-count-same : SameRecord s s' 4 → strake-count s ≡ strake-count s'
+  unfolding strake-count
+  strake-count-same r = ap (λ (n : ℕ). n / 2) (payload-length-same s s' 4 r)
+
+  strakes-same : SameRecord s s' 4 → strakes-of s ≡ strakes-of s'
+  unfolding strakes-of
+  strakes-same r = list-same s s' 4 r (u16 s) (u16 s') 2 (strake-count s) (strake-count s') (two-in s s' 4 r) (l .strakes-length) (strake-count-same r)
+
+  depth-count-same : SameRecord s s' 5 → depth-count s ≡ depth-count s'
+  unfolding depth-count
+  depth-count-same r = ap (λ (n : ℕ). n / 4) (payload-length-same s s' 5 r)
+
+  depths-same : SameRecord s s' 5 → depths-of s ≡ depths-of s'
+  unfolding depths-of
+  depths-same r = list-same s s' 5 r (u32 s) (u32 s') 4 (depth-count s) (depth-count s') (four-in s s' 5 r) (l .depths-length) (depth-count-same r)
+
+-- everything but the product
+pub record SameParts (s s' : List ℕ) : Type 0 where
+  pub sections : section-of s ≡ section-of s'
+  pub eccentricities : eccentricities-of s ≡ eccentricities-of s'
+  pub bottoms : bottom-of s ≡ bottom-of s'
+  pub strake-counts : strake-count s ≡ strake-count s'
+  pub strakes : strakes-of s ≡ strakes-of s'
+  pub depth-counts : depth-count s ≡ depth-count s'
+  pub depths : depths-of s ≡ depths-of s'
+  pub headrooms : headroom-of s ≡ headroom-of s'
+
+module _ (s s' : List ℕ) where
+  pub same-parts : Layout s → ((k : ℕ) → k < 6 → (k ≡ 1 → ⊥) → SameRecord s s' k) → headroom-of s ≡ headroom-of s' → SameParts s s'
+  same-parts l r g =
+      let wall = r 4 (omega arith) (λ e. omega (arith, e)) in
+      let listed = r 5 (omega arith) (λ e. omega (arith, e)) in
+      record {
+        sections = section-same s s' l (r 0 (omega arith) (λ e. omega (arith, e)));
+        eccentricities = eccentricities-same s s' l (r 2 (omega arith) (λ e. omega (arith, e)));
+        bottoms = bottom-same s s' l (r 3 (omega arith) (λ e. omega (arith, e)));
+        strake-counts = strake-count-same s s' l wall;
+        strakes = strakes-same s s' l wall;
+        depth-counts = depth-count-same s s' l listed;
+        depths = depths-same s s' l listed;
+        headrooms = g;
+      }
+
+  pub values-same : SameParts s s' → product-met (product-sent s) ≡ product-met (product-sent s') → value-rules s ≡ value-rules s'
+  unfolding value-rules h-of V-of
+  values-same p e = rw (p .sections, e, p .eccentricities, p .bottoms, p .strakes, p .depths, p .headrooms) refl
+
+  -- rules 1 to 5 answer the same, and the others are the same where those pass
+  module _ (records : first-unmet (layout-rules s) ≡ first-unmet (layout-rules s')) (values : Layout s → value-rules s ≡ value-rules s') where
+    refusal-by : Dec (first-unmet (layout-rules s) ≤ 0) → refusal-of s ≡ refusal-of s'
+    refusal-by (yes z) =
+        let h : first-unmet (layout-rules s) ≡ 0 = omega (arith, z) in
+        sym (values-refused s h refl) ∙ ap first-unmet (values (layout-of s h)) ∙ values-refused s' (sym records ∙ h) refl
+    refusal-by (no z) =
+        let n : first-unmet (layout-rules s) ≡ 0 → ⊥ = λ o. z (omega (arith, o)) in
+        sym (records-refused s refl n) ∙ records ∙ records-refused s' refl (λ o. n (records ∙ o))
+
+    pub refusal-same : refusal-of s ≡ refusal-of s'
+    refusal-same = refusal-by (decLe (first-unmet (layout-rules s)) 0)
