@@ -49,7 +49,7 @@ pub fn read_product(sheet: &[u8], at: usize) -> Product
     }
 }
 
-// A factor C0 of 0 is read as 155 hundredths.
+// A factor C0 of 0 is read as 155 hundredths: equation 7.4 at an internal friction angle of 40°.
 fn factor_read(sent: u64) -> u64
     ensures { λ r. ⌜ r ≡ factor-read sent ⌝ }
 {
