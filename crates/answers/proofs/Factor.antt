@@ -7,10 +7,10 @@
 -- Assumes nothing.
 use Prim.Native.Nat.{ℕ, suc, _+_, _/_, _%_, _≤_, _<_}
 use mathlib.Core.List.{List}
-use mathlib.Core.Path.{_≡_, refl, ap, ap₂, sym, _∙_, subst}
+use mathlib.Core.Path.{_≡_, refl, ap, sym, _∙_}
 use native.Mathlib.Omega.{arith}
 use borrow.Author.Tests.{le-leb, eq-eqb, ne-eqb}
-use lib.ListN.{length, getD, set, take, length-set}
+use lib.ListN.{length, getD, set, length-set}
 use lib.Seq.{getD-set-same, getD-set-other}
 use Rattle.janssen.specs.Numbers.{FillingNumbers}
 use Rattle.janssen.specs.program.Pressure.{computed}
@@ -18,27 +18,27 @@ use Rattle.janssen.proofs.WithFactor.{product-with}
 use Rattle.records.specs.Rules.{first-unmet}
 use Rattle.records.specs.Format.{u16, u32, place, payload, payload-length, layout-rules}
 use Rattle.records.proofs.Records.{place-next, place-most}
-use Rattle.records.proofs.Alike.{SameBytes, SameRecord, u16-same, u32-same}
+use Rattle.records.proofs.Alike.{SameBytes, SameRecord, u32-same}
 use Rattle.records.proofs.Written.{place-written, other-record, layout-written}
-use Rattle.description.specs.Silo.{product-sent, product-of, factor-read, depth-count, V-of, headroom-of, edge-of, sum}
+use Rattle.description.specs.Silo.{product-sent, product-of, factor-read, depth-count, V-of, headroom-of, edge-of}
 use Rattle.description.proofs.Headroom.{headroom-read}
 use Rattle.sheet.specs.Refusal.{product-met, refusal-of}
 use Rattle.sheet.specs.Accepted.{Layout}
 use Rattle.sheet.proofs.Acceptance.{accepted}
 use Rattle.sheet.proofs.Described.{factor-in}
-use Rattle.sheet.proofs.Parts.{SameParts, same-parts, values-same, refusal-same}
+use Rattle.sheet.proofs.Parts.{SameParts, means-same, same-parts, values-same, refusal-same}
 use Rattle.loads.specs.declared.Silo.{Silo}
 use Rattle.loads.specs.Load.{Load}
 use Rattle.loads.specs.Load.{number, bottom-numbers}
 use Rattle.loads.specs.Load.Load.{p-he, p-we, p-p}
 use Rattle.loads.proofs.WithFactor.{silo-with, number-with, p-we-with, bottom-with, p-he-less, p-p-less}
 use Rattle.answers.specs.Length.{answers-length}
-use Rattle.answers.specs.Answers.{silo-of, depth, load-in, strake-in}
+use Rattle.answers.specs.Answers.{silo-of, depth, load-in}
 use Rattle.answers.specs.Claim.{LeftFor}
 use Rattle.answers.specs.Promise.{Promise}
 use Rattle.answers.specs.Factor.{with-factor, Blank, NoSmaller}
 use Rattle.answers.proofs.Demand.{two-records, silo-fits}
-use Rattle.answers.proofs.OneSilo.{OneSilo, one-length, one-call}
+use Rattle.answers.proofs.OneSilo.{OneSilo, depths-by, strakes-by, one-length, one-call}
 
 module _ (s : List ℕ) (c : ℕ) (ten : payload-length s 1 ≡ 10) where
   abbrev s' : List ℕ
@@ -107,14 +107,10 @@ module _ (s : List ℕ) (c : ℕ) (ten : payload-length s 1 ≡ 10) where
     product-written : product-sent s' ≡ product-with c (product-sent s)
     unfolding product-sent payload
     product-written =
-        let at = place s 1 + 4 in
-        let two : (n : ℕ) → n + 2 ≤ place s 1 + 12 → u16 s n ≡ u16 s' n = λ n h. u16-same s s' 0 (place s 1 + 12) before n (omega arith) h in
-        let γ : u32 s at ≡ u32 s' at = u32-same s s' 0 (place s 1 + 12) before at (omega arith) (omega arith) in
-        let Ks : u16 s (at + 4) ≡ u16 s' (at + 4) = two (at + 4) (omega arith) in
-        let μ : u16 s (at + 6) ≡ u16 s' (at + 6) = two (at + 6) (omega arith) in
-        let e : at + 8 ≡ place s 1 + 12 = omega arith in
-        let C0 : u16 s' (at + 8) ≡ c = rw e factor-back in
-        rw (sym (there 1), γ, Ks, μ, C0) refl
+        let m = means-same s s' (there 1) (λ i _ h. before i (omega arith) h) in
+        let e : place s 1 + 4 + 8 ≡ place s 1 + 12 = omega arith in
+        let C0 = ap (λ (p : ℕ). u16 s' (p + 4 + 8)) (sym (there 1)) ∙ ap (u16 s') e ∙ factor-back in
+        λ i. record { weight = sym (m .0) i; ratio = sym (m .1 .0) i; friction = sym (m .1 .1) i; factor = C0 i }
 
     product-of-written : product-of s' ≡ product-with c (product-of s)
     unfolding product-of factor-read
@@ -158,7 +154,7 @@ module _ (s : List ℕ) (b : Blank s) where
         silos = sym (silo-written s 155 (b .ten) (b .inside) (omega arith) (omega arith) l ∙ ap (λ (n : ℕ). silo-with n (silo-of s)) (sym (blank-factor s (b .blank))));
       }
 
-  pub blank-length : answers-length written ≡ answers-length s
+  pub blank-length : answers-length s ≡ answers-length written
   blank-length = one-length s written same-refusal same-silo
 
   pub acts-as-155 : (f : FillingNumbers) (lent left left' : List ℕ) (r r' : ℕ) → Promise f s lent r left → Promise f written lent r' left'
@@ -168,7 +164,6 @@ module _ (s : List ℕ) (b : Blank s) where
 -- a smaller C0 written into an accepted sheet
 module _ (s : List ℕ) (c : ℕ) (least : 100 ≤ c) (most : c ≤ product-of s .factor) (list list' : List ℕ) where
   pub smaller-factor : LeftFor computed s list → LeftFor computed (with-factor c s) list' → NoSmaller s list (with-factor c s) list'
-  unfolding edge-of
   smaller-factor a a' =
       let ok = accepted s (a .accepted) in
       let ten = ok .layout .product-length in
@@ -179,16 +174,13 @@ module _ (s : List ℕ) (c : ℕ) (least : 100 ≤ c) (most : c ≤ product-of s
       let m : SameParts s s' = parts-kept s c ten (ok .layout) in
       let fits = silo-fits s ok in
       let at : (l : Load) (i : ℕ) → i < depth-count s → load-in s' list' l i ≡ number computed (silo-with c (silo-of s)) l (depth s i) =
-      λ l i h. a' .filled .at-depths l i (subst (λ (n : ℕ). i < n) (m .depth-counts) h)
-      ∙ ap₂ (λ (x : Silo) (d : List ℕ). number computed x l (getD d i 0)) silo (sym (m .depths)) in
+      λ l i h. depths-by s s' m computed list' (a' .filled) l i h ∙ ap (λ (x : Silo). number computed x l (depth s i)) silo in
       record {
         p-he-no-smaller = λ i h. rw (at p-he i h, a .filled .at-depths p-he i h) (p-he-less c (silo-of s) fits least most (depth s i));
         patch-no-smaller = λ i h. rw (at p-p i h, a .filled .at-depths p-p i h) (p-p-less c (silo-of s) fits least most (depth s i));
         strakes-no-smaller =
             λ k h.
-            let there : strake-in s' list' k ≡ number computed (silo-with c (silo-of s)) p-he (edge-of s (suc k)) =
-            a' .filled .at-strakes k (subst (λ (n : ℕ). k < n) (m .strake-counts) h)
-            ∙ ap₂ (λ (x : Silo) (d : List ℕ). number computed x p-he (sum (take (suc k) d))) silo (sym (m .strakes)) in
+            let there = strakes-by s s' m computed list' (a' .filled) k h ∙ ap (λ (x : Silo). number computed x p-he (edge-of s (suc k))) silo in
             rw (there, a .filled .at-strakes k h) (p-he-less c (silo-of s) fits least most (edge-of s (suc k)));
         filling-same = λ l o i h. a .filled .at-depths l i h ∙ sym (at l i h ∙ number-with c (silo-of s) o (depth s i));
         p-we-same = λ i h. a .filled .at-depths p-we i h ∙ sym (at p-we i h ∙ p-we-with c (silo-of s) (depth s i));

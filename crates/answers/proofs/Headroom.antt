@@ -85,7 +85,7 @@ module _ (s : List ℕ) (six : place s 6 ≡ length s) where
     level-silo : refusal-of s ≡ 0 → OneSilo s (s ++ level)
     level-silo h = let l = accepted s h .layout in record { parts = parts-kept l; silos = silo-kept l }
 
-    pub level-length : answers-length (s ++ level) ≡ answers-length s
+    pub level-length : answers-length s ≡ answers-length (s ++ level)
     level-length = one-length s (s ++ level) level-refusal level-silo
 
     pub level-record : (f : FillingNumbers) (lent left left' : List ℕ) (r r' : ℕ) → Promise f s lent r left → Promise f (s ++ level) lent r' left'

@@ -3,7 +3,7 @@
 -- Assumes nothing.
 use Prim.Native.Nat.{ℕ, suc, _≤_, _<_}
 use mathlib.Core.List.{List, [], _∷_}
-use mathlib.Core.Path.{_≡_, refl, ap, ap₂, sym, _∙_, subst}
+use mathlib.Core.Path.{_≡_, refl, ap, sym, _∙_, subst}
 use native.Mathlib.Decide.{decLe}
 use native.Mathlib.Omega.{arith}
 use borrow.Author.Tests.{ne-eqb}
@@ -11,15 +11,16 @@ use lib.Dec.{eqb}
 use lib.ListN.{length, getD, take}
 use Rattle.janssen.specs.Numbers.{FillingNumbers}
 use Rattle.records.specs.Rules.{_unless_, first-unmet}
-use Rattle.description.specs.Silo.{edge-of, sum}
+use Rattle.description.specs.Silo.{strake-count, depth-count, edge-of, sum}
 use Rattle.sheet.specs.Refusal.{refusal-of}
 use Rattle.sheet.proofs.Parts.{SameParts}
 use Rattle.loads.specs.declared.Silo.{Silo}
+use Rattle.loads.specs.Load.{Load}
 use Rattle.loads.specs.Load.{number, bottom-numbers}
 use Rattle.loads.specs.Load.Load.{p-he}
 use Rattle.answers.specs.Place.{load-place, bottom-place, strake-place}
 use Rattle.answers.specs.Length.{length-due, answers-length}
-use Rattle.answers.specs.Answers.{silo-of, Filled, loads-rules}
+use Rattle.answers.specs.Answers.{silo-of, depth, load-in, strake-in, Filled, loads-rules}
 use Rattle.answers.specs.Promise.{Promise}
 use Rattle.answers.proofs.Places.{filled-once}
 use Rattle.answers.proofs.Call.{last-rule, refused-answer, not-refused}
@@ -34,38 +35,51 @@ module _ (s s' : List ℕ) where
   unfolding length-due
   due-same p = rw (p .depth-counts, p .strake-counts) refl
 
-  -- what fills the answers of the one fills those of the other
-  filled-same : OneSilo s s' → (f : FillingNumbers) (list : List ℕ) → Filled f s list → Filled f s' list
-  unfolding edge-of
+  -- the numbers of the other's list, at the depths and edges of s
+  module _ (p : SameParts s s') (f : FillingNumbers) (list : List ℕ) (a : Filled f s' list) where
+    pub depths-by : (l : Load) (i : ℕ) → i < depth-count s → load-in s' list l i ≡ number f (silo-of s') l (depth s i)
+    depths-by l i h =
+        a .at-depths l i (subst (λ (n : ℕ). i < n) (p .depth-counts) h)
+        ∙ ap (λ (d : List ℕ). number f (silo-of s') l (getD d i 0)) (sym (p .depths))
+
+    pub strakes-by : (k : ℕ) → k < strake-count s → strake-in s' list k ≡ number f (silo-of s') p-he (edge-of s (suc k))
+    unfolding edge-of
+    strakes-by k h =
+        a .at-strakes k (subst (λ (n : ℕ). k < n) (p .strake-counts) h)
+        ∙ ap (λ (d : List ℕ). number f (silo-of s') p-he (sum (take (suc k) d))) (sym (p .strakes))
+
+  -- what fills the answers of the other fills those of s
+  filled-same : OneSilo s s' → (f : FillingNumbers) (list : List ℕ) → Filled f s' list → Filled f s list
   filled-same o f list a =
-      let c = o .silos in
-      let m = o .parts in
+      let p = o .parts in
+      let count = p .depth-counts in
+      let silo = sym (o .silos) in
       record {
-        due = a .due ∙ due-same m;
+        due = a .due ∙ sym (due-same p);
         at-depths =
-            λ l i h. ap (λ (n : ℕ). getD list (load-place n l i) 0) (sym (m .depth-counts))
-            ∙ a .at-depths l i (subst (λ (n : ℕ). i < n) (sym (m .depth-counts)) h)
-            ∙ ap₂ (λ (c : Silo) (d : List ℕ). number f c l (getD d i 0)) c (m .depths);
+            λ l i h. ap (λ (n : ℕ). getD list (load-place n l i) 0) count
+            ∙ depths-by p f list a l i h
+            ∙ ap (λ (c : Silo). number f c l (depth s i)) silo;
         at-bottom =
-            λ k h. ap (λ (n : ℕ). getD list (bottom-place n k) 0) (sym (m .depth-counts))
+            λ k h. ap (λ (n : ℕ). getD list (bottom-place n k) 0) count
             ∙ a .at-bottom k h
-            ∙ ap (λ (c : Silo). getD (bottom-numbers f c) k 0) c;
+            ∙ ap (λ (c : Silo). getD (bottom-numbers f c) k 0) silo;
         at-strakes =
-            λ k h. ap (λ (n : ℕ). getD list (strake-place n k) 0) (sym (m .depth-counts))
-            ∙ a .at-strakes k (subst (λ (n : ℕ). k < n) (sym (m .strake-counts)) h)
-            ∙ ap₂ (λ (c : Silo) (d : List ℕ). number f c p-he (sum (take (suc k) d))) c (m .strakes);
+            λ k h. ap (λ (n : ℕ). getD list (strake-place n k) 0) count
+            ∙ strakes-by p f list a k h
+            ∙ ap (λ (c : Silo). number f c p-he (edge-of s (suc k))) silo;
       }
 
   module _ (refusals : refusal-of s ≡ refusal-of s') (one : refusal-of s ≡ 0 → OneSilo s s') where
     due-by : refusal-of s ≡ 0 → length-due s ≡ length-due s'
     due-by h = due-same (one h .parts)
 
-    length-by : Dec (refusal-of s ≤ 0) → answers-length s' ≡ answers-length s
+    length-by : Dec (refusal-of s ≤ 0) → answers-length s ≡ answers-length s'
     unfolding answers-length
     length-by (yes z) = let h : refusal-of s ≡ 0 = omega (arith, z) in rw (sym refusals, h, sym (due-by h)) refl
     length-by (no z) = rw (sym refusals) (simp (ne-eqb (refusal-of s) 0 (λ o. z (omega (arith, o)))))
 
-    pub one-length : answers-length s' ≡ answers-length s
+    pub one-length : answers-length s ≡ answers-length s'
     one-length = length-by (decLe (refusal-of s) 0)
 
     answer-by : (n : ℕ) → Dec (refusal-of s ≤ 0) → first-unmet (loads-rules s n) ≡ first-unmet (loads-rules s' n)
@@ -84,7 +98,7 @@ module _ (s s' : List ℕ) where
       left-by (yes z) =
           let h : r ≡ 0 = omega (arith, z) in
           let o : OneSilo s s' = one (not-refused s (length lent) (sym (a .answer) ∙ h)) in
-          filled-once f s' left left' (filled-same o f left (a .filled h)) (b .filled (sym answers-same ∙ h))
+          filled-once f s left left' (a .filled h) (filled-same o f left' (b .filled (sym answers-same ∙ h)))
       left-by (no n) = a .unchanged (λ z. n (omega (arith, z))) ∙ sym (b .unchanged (λ z. n (omega (arith, z, answers-same))))
 
       pub one-call : (r ≡ r') × (left ≡ left')

@@ -10,12 +10,26 @@ use native.Mathlib.Omega.{arith}
 use Rattle.records.specs.Rules.{first-unmet}
 use Rattle.records.specs.Format.{u16, u32, place, kind, payload, payload-length, layout-rules}
 use Rattle.records.proofs.Records.{place-next}
-use Rattle.records.proofs.Alike.{SameRecord, two-in, four-in, payload-length-same, kind-same, pair-same, list-same}
+use Rattle.records.proofs.Alike.{SameBytes, SameRecord, u16-same, u32-same, two-in, four-in, payload-length-same, kind-same, pair-same, list-same}
 use Rattle.description.specs.Silo.{section-of, product-sent, eccentricities-of, bottom-of, strake-count, strakes-of, depth-count, depths-of, V-of, headroom-of, h-of}
 use Rattle.sheet.specs.Refusal.{product-met, value-rules, refusal-of}
 use Rattle.sheet.specs.Accepted.{Layout}
 use Rattle.sheet.proofs.Layouts.{layout-of}
 use Rattle.sheet.proofs.Acceptance.{records-refused, values-refused}
+
+-- γ, Ks and μ stand in the twelve bytes of the second record before C0
+pub means-same : (s s' : List ℕ) → place s 1 ≡ place s' 1 → SameBytes s s' (place s 1) (place s 1 + 12)
+    → (product-sent s .weight ≡ product-sent s' .weight) × ((product-sent s .ratio ≡ product-sent s' .ratio) × (product-sent s .friction ≡ product-sent s' .friction))
+unfolding product-sent payload
+means-same s s' there same =
+    let low = place s 1 in
+    let two : (n : ℕ) → low ≤ n → n + 2 ≤ low + 12 → u16 s n ≡ u16 s' n = u16-same s s' low (low + 12) same in (
+      u32-same s s' low (low + 12) same (low + 4) (omega arith) (omega arith) ∙ ap (λ (p : ℕ). u32 s' (p + 4)) there,
+      (
+        two (low + 4 + 4) (omega arith) (omega arith) ∙ ap (λ (p : ℕ). u16 s' (p + 4 + 4)) there,
+        two (low + 4 + 6) (omega arith) (omega arith) ∙ ap (λ (p : ℕ). u16 s' (p + 4 + 6)) there,
+      ),
+    )
 
 module _ (s s' : List ℕ) (l : Layout s) where
   module _ (r : SameRecord s s' 0) where
@@ -38,13 +52,10 @@ module _ (s s' : List ℕ) (l : Layout s) where
   pub product-same : SameRecord s s' 1 → product-sent s ≡ product-sent s'
   unfolding product-sent payload payload-length
   product-same r =
-      let at = place s 1 + 4 in
       let end : place s 2 ≡ place s 1 + 14 = omega (arith, place-next s 1, l .product-length) in
-      let γ : u32 s at ≡ u32 s' at = four-in s s' 1 r at (omega arith) (omega (arith, end)) in
-      let Ks : u16 s (at + 4) ≡ u16 s' (at + 4) = two-in s s' 1 r (at + 4) (omega arith) (omega (arith, end)) in
-      let μ : u16 s (at + 6) ≡ u16 s' (at + 6) = two-in s s' 1 r (at + 6) (omega arith) (omega (arith, end)) in
-      let C0 : u16 s (at + 8) ≡ u16 s' (at + 8) = two-in s s' 1 r (at + 8) (omega arith) (omega (arith, end)) in
-      rw (γ, Ks, μ, C0, r .there) refl
+      let m = means-same s s' (r .there) (λ i low high. r .bytes i low (omega (arith, high, end))) in
+      let C0 = two-in s s' 1 r (place s 1 + 4 + 8) (omega arith) (omega (arith, end)) ∙ ap (λ (p : ℕ). u16 s' (p + 4 + 8)) (r .there) in
+      λ i. record { weight = m .0 i; ratio = m .1 .0 i; friction = m .1 .1 i; factor = C0 i }
 
   eccentricities-same : SameRecord s s' 2 → eccentricities-of s ≡ eccentricities-of s'
   unfolding eccentricities-of
