@@ -1,8 +1,14 @@
-# For bench/instructions and bench/before: the program that makes the calls, with any build of the library, and its counts by callgrind.
+# For bench/instructions, bench/before and bench/copies: the program that makes the calls, with any build of the library, and its counts by
+# callgrind.
+
+# What stands in for the page calls where a build has none.
+no_page() { # LIBRARY
+    nm -g --defined-only "$1" | grep ' silo_page$' >/dev/null || echo bench/no_page.c
+}
 
 build_calls() { # LIBRARY PROGRAM
     # Bound at the start, so that no call's stack has the loader's in it.
-    gcc -O2 -Wall -Wextra -Wl,-z,now -Iinclude bench/calls.c bench/measured.c bench/sheet.c bench/plain.c "$1" -lm -o "$2"
+    gcc -O2 -Wall -Wextra -Wl,-z,now -Iinclude bench/calls.c bench/measured.c bench/sheet.c bench/plain.c $(no_page "$1") "$1" -lm -o "$2"
 }
 
 collected() { # PROGRAM CALL SHEET COUNT

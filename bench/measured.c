@@ -60,7 +60,9 @@ struct sheet sheet_named(const char *call, const char *name) {
         struct silo s = tower(depths, strakes);
         s.headroom = headroom;
         struct sheet sheet = sheet_of(&s);
-        sheet.answer = strcmp(call, "length") == 0 ? (uint32_t)sheet.list : 0;
+        if (strncmp(call, "page", 4) == 0)
+            sheet.list = page_length(&s);
+        sheet.answer = strstr(call, "length") ? (uint32_t)sheet.list : 0;
         return sheet;
     }
     for (const struct refused *refused = REFUSED; refused->name; refused++)
@@ -73,4 +75,15 @@ struct sheet sheet_named(const char *call, const char *name) {
 uint32_t length_call(const uint8_t *sheet, size_t sheet_len, uint32_t *answers, size_t answers_len) {
     (void)answers, (void)answers_len;
     return (uint32_t)silo_answers_length(sheet, sheet_len);
+}
+
+uint32_t page_call(const uint8_t *sheet, size_t sheet_len, uint32_t *answers, size_t answers_len) {
+    static uint8_t page[MAX_PAGE];
+    (void)answers;
+    return silo_page(sheet, sheet_len, page, answers_len);
+}
+
+uint32_t page_length_call(const uint8_t *sheet, size_t sheet_len, uint32_t *answers, size_t answers_len) {
+    (void)answers, (void)answers_len;
+    return (uint32_t)silo_page_length(sheet, sheet_len);
 }

@@ -138,6 +138,10 @@ size_t answers_length(const struct silo *s) {
     return COLUMNS * (size_t)s->depth_count + BOTTOM + s->strake_count;
 }
 
+size_t page_length(const struct silo *s) {
+    return LINE * (1 + (size_t)s->depth_count) + SHORT_LINE * (BOTTOM + (size_t)s->strake_count);
+}
+
 uint32_t foot_of(const struct silo *s) {
     uint32_t foot = 0;
     for (uint32_t i = 0; i < s->strake_count; i++)

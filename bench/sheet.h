@@ -8,6 +8,7 @@
 
 enum { RECORDS = 7, MAX_SHEET = 1024, MAX_STRAKES = 24, MAX_DEPTHS = 200, BOTTOM = 10, COLUMNS = 8 };
 enum { MAX_ANSWERS = COLUMNS * MAX_DEPTHS + BOTTOM + MAX_STRAKES };
+enum { LINE = 9 * COLUMNS + 1, SHORT_LINE = 9 + 1, MAX_PAGE = LINE * (1 + MAX_DEPTHS) + SHORT_LINE * (BOTTOM + MAX_STRAKES) };
 
 /* mm, N/m3 and hundredths; a circle has a = b, a sheet of six records a headroom of 0. */
 struct silo {
@@ -26,6 +27,9 @@ uint32_t read_call(const uint8_t *sheet, size_t sheet_len, size_t answers_len, s
 uint64_t read_length(const uint8_t *sheet, size_t length);
 
 size_t answers_length(const struct silo *s);
+
+/* The bytes of its page. */
+size_t page_length(const struct silo *s);
 
 /* V, the sum of the strakes. */
 uint32_t foot_of(const struct silo *s);
@@ -55,7 +59,7 @@ struct silo squat(uint32_t depth_count, uint32_t strake_count);
 /* The tower under a headroom of 300 mm. */
 struct silo under_headroom(uint32_t depth_count, uint32_t strake_count);
 
-/* A sheet, which may be a byte too long, the list's length and the answer due. */
+/* A sheet, which may be a byte too long, the length of the list or page, and the answer due. */
 struct sheet {
     uint8_t bytes[MAX_SHEET + 1];
     size_t length, list;

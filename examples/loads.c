@@ -1,6 +1,6 @@
 /* Asks for the loads of a circular tower of 5 m by 10 m, and of a squat bin of the same section and product, 6 m high: at 5 m the same
- * filling pressures, less on discharge. Then of the bin at a depth below its foot, which is refused, and whether the tower's strakes are
- * governed by its product or by barley. */
+ * filling pressures, less on discharge. Then of the bin at a depth below its foot, which is refused, whether the tower's strakes are
+ * governed by its product or by barley, and for the tower's load page. */
 #include "silo.h"
 #include <inttypes.h>
 #include <stdio.h>
@@ -53,10 +53,26 @@ static void print_governing(void) {
     printf("governing, of 5 and 4 strakes: %" PRIu32 "\n", silo_governing(first + 26, 5, second + 26, 4));
 }
 
+/* A page is bytes without a zero at their end. */
+static void print_page(const char *name, const uint8_t *sheet, size_t sheet_len) {
+    uint8_t page[73 * (1 + 200) + 10 * (10 + 24)];
+    uint64_t length = silo_page_length(sheet, sheet_len);
+    if (length < SILO_LENGTH_MARK) {
+        printf("page, %s: refusal %" PRIu64 "\n", name, length);
+        return;
+    }
+    length -= SILO_LENGTH_MARK;
+    printf("page, %s, in a buffer too short: refusal %" PRIu32 "\n", name, silo_page(sheet, sheet_len, page, length - 1));
+    printf("page, %s: %" PRIu64 " bytes, answer %" PRIu32 "\n", name, length, silo_page(sheet, sheet_len, page, length));
+    fwrite(page, 1, length, stdout);
+}
+
 int main(void) {
     print_loads("tower", tower, sizeof tower);
     print_loads("squat bin", squat, sizeof squat);
     print_loads("below the foot", below, sizeof below);
     print_governing();
+    print_page("tower", tower, sizeof tower);
+    print_page("below the foot", below, sizeof below);
     return 0;
 }

@@ -31,6 +31,15 @@
  *                           k = 0..4 (Pa), k quarters of the slope counted up from the outlet
  *   then one per strake:    p_he at its lower edge (Pa)
  *
+ * A page is the same numbers as text, in ASCII. Each line ends with one line feed, and each field is right-justified with spaces in nine
+ * characters, a number in decimal without leading zeros:
+ *
+ *   a heading, eight fields:  z phf pwf pvf PW phe pwe pp
+ *   for each depth a line:    its eight numbers, each under its name
+ *   then ten for the bottom and one per strake, one field a line
+ *
+ * No number has more than nine digits, and none of a depth more than eight, so that a space stands before each of its fields.
+ *
  * Refusals, tried in this order; a refused call changes no memory that it was lent:
  *
  *    1  sheet over 1,024 bytes
@@ -51,8 +60,9 @@
  *   14  the answer list is not exactly of the length due (silo_loads only)
  *   15  no such row or wall in the catalogue (silo_catalogue only)
  *   16  the catalogue buffer is not of 14 bytes (silo_catalogue only)
+ *   18  the page buffer is shorter than the page (silo_page only)
  *
- * A pointer is never null, whatever its length, and points to that many elements; a list that is written overlaps no sheet.
+ * A pointer is never null, whatever its length, and points to that many elements; a list or page that is written overlaps no sheet.
  */
 #ifndef SILO_H
 #define SILO_H
@@ -64,7 +74,7 @@
 extern "C" {
 #endif
 
-/* silo_answers_length adds this to a length, so that no length is a refusal's number. */
+/* silo_answers_length and silo_page_length add this to a length, so that no length is a refusal's number. */
 #define SILO_LENGTH_MARK (UINT64_C(1) << 32)
 
 /* Bytes of the product record that silo_catalogue writes. */
@@ -77,6 +87,14 @@ uint32_t silo_loads(const uint8_t *sheet, size_t sheet_len, uint32_t *answers, s
 /* The answer list's length in numbers, 8 times the depths plus 10 plus the strakes.
  * Returns SILO_LENGTH_MARK plus that length; or a refusal, 1 to 12 or 17. */
 uint64_t silo_answers_length(const uint8_t *sheet, size_t sheet_len);
+
+/* The page's length in bytes, 73 times the depths plus 73, plus 10 times the strakes plus 100; no buffer is asked for.
+ * Returns SILO_LENGTH_MARK plus that length; or a refusal, 1 to 12 or 17. */
+uint64_t silo_page_length(const uint8_t *sheet, size_t sheet_len);
+
+/* Writes the page of the sheet at the start of the buffer of page_len bytes; the bytes past the page keep what they held.
+ * Returns 0; or a refusal, 1 to 12, 17 or 18, and the buffer is as it was. */
+uint32_t silo_page(const uint8_t *sheet, size_t sheet_len, uint8_t *page, size_t page_len);
 
 /* Writes the product record of a row of table 7.1 of ENV 1991-4, rows counted from 0 in its order: barley, cement, clinker, dry
  * sand, flour, fly ash, maize, sugar, wheat, coal. Wall 0 is steel, wall 1 concrete.

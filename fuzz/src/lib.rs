@@ -14,7 +14,7 @@ fn stop_at<T>(outcome: Result<T, Difference>) -> T {
     })
 }
 
-/// Compares the calls for these bytes as a sheet, the catalogue call for the row, wall and buffer length that they begin with, and the
+/// Compares the four calls that take a sheet for these bytes, the catalogue call for the row, wall and buffer length that they begin with, and the
 /// governing call for the halves of the numbers that they hold.
 ///
 /// # Safety
@@ -35,10 +35,11 @@ pub unsafe extern "C" fn compare_input(input: *const u8, length: usize) {
     stop_at(comparison.governing(first, second));
 }
 
-/// Compares the two calls that take a sheet: every limit, two rules broken at once, and random rounds; tells how many sheets.
+/// Compares the load call and its length call: every limit, two rules broken at once, and random rounds; tells how many sheets. The page
+/// calls are not made.
 #[no_mangle]
 pub extern "C" fn compare_sheets(rounds: u64, seed: u64) -> u64 {
-    let mut comparison = Comparison::with(&Linked);
+    let mut comparison = Comparison { with_pages: false, ..Comparison::with(&Linked) };
     let mut random = Random::new(seed);
     stop_at(runs::table(&mut comparison, &limits::sheets()));
     stop_at(runs::table(&mut comparison, &order::sheets()));

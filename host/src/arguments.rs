@@ -6,15 +6,16 @@ use silo::units::Units;
 use std::ffi::{OsStr, OsString};
 use std::path::Path;
 
-const COMMANDS: [&str; 6] = ["loads", "draw", "sheet", "explain", "catalogue", "help"];
+/// The commands whose output may go to a file; help is one more.
+const COMMANDS: [&str; 6] = ["loads", "page", "draw", "sheet", "explain", "catalogue"];
 /// Each option with the commands that it is for.
 const OPTIONS: [(&str, &[&str]); 6] = [
     ("--csv", &["loads", "catalogue"]),
     ("--csv-semicolon", &["loads", "catalogue"]),
     ("--json", &["loads"]),
     ("--kpa", &["loads", "draw"]),
-    ("--force", &["loads", "draw", "sheet", "explain", "catalogue"]),
-    ("-o", &["loads", "draw", "sheet", "explain", "catalogue"]),
+    ("--force", &COMMANDS),
+    ("-o", &COMMANDS),
 ];
 const FORMATS: [(&str, Format); 3] =
     [("--csv", Format::Csv), ("--csv-semicolon", Format::CsvSemicolon), ("--json", Format::Json)];
@@ -122,7 +123,8 @@ impl Arguments {
                 return Err(format!("catalogue {}: no file is due", more.display()))
             }
             (command, _) if !COMMANDS.contains(&command) => {
-                let hint = suggestion(&command.to_lowercase(), COMMANDS.into_iter());
+                let known = COMMANDS.into_iter().chain(["help"]);
+                let hint = suggestion(&command.to_lowercase(), known);
                 return Err(format!("{command}: unknown command; {hint}"));
             }
             ("explain", []) => {

@@ -34,6 +34,7 @@ pub fn kind(command: &str, format: Format) -> Kind {
     match (command, format) {
         ("draw", _) => Kind::Drawing,
         ("sheet", _) => Kind::Sheet,
+        ("page", _) => Kind::Page,
         ("explain", _) => Kind::Text,
         ("catalogue", Format::Csv | Format::CsvSemicolon) => Kind::CatalogueCsv,
         ("catalogue", _) => Kind::Catalogue,
@@ -112,6 +113,16 @@ pub fn loads(file: &str, bytes: &[u8], format: Format, units: Units) -> Outcome 
             Outcome { status: BAD_USE, ..done(unread.json()) }
         }
         Err(failure) => failed(file, &failure),
+    }
+}
+
+/// The load page, the library's bytes and nothing else. A refusal is on the output as well as in the messages.
+pub fn page(file: &str, bytes: &[u8]) -> Outcome {
+    let page = source::open(bytes)
+        .and_then(|source| library::page(&source.sheet).map_err(|refusal| source.refused(refusal)));
+    match page {
+        Ok(page) => done(page),
+        Err(failure) => Outcome { output: failure.page().into(), ..failed(file, &failure) },
     }
 }
 

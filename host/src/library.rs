@@ -1,11 +1,11 @@
-//! The proved library's four functions behind safe Rust: slices in, results out.
+//! The proved library's six functions behind safe Rust: slices in, results out.
 
 /// Why a call was refused: the number that the library answers.
 #[derive(Clone, Copy, Debug, PartialEq, Eq)]
 pub struct Refusal(pub u32);
 
 /// What refusals 1, 2, .. mean.
-const MEANINGS: [&str; 17] = [
+const MEANINGS: [&str; 18] = [
     "the sheet is over 1024 bytes",
     "a record is cut short",
     "a record's kind is not the one due",
@@ -25,6 +25,7 @@ const MEANINGS: [&str; 17] = [
     "the catalogue has no such row or wall",
     "the catalogue buffer is not of 14 bytes",
     "the headroom is the wall's height or more",
+    "the page buffer is shorter than the page; lend one of the length that the library says beforehand",
 ];
 
 impl Refusal {
@@ -44,6 +45,7 @@ impl Refusal {
     pub const NO_SUCH_ROW: Refusal = Refusal(15);
     pub const RECORD_LENGTH: Refusal = Refusal(16);
     pub const HEADROOM: Refusal = Refusal(17);
+    pub const PAGE_LENGTH: Refusal = Refusal(18);
 
     pub fn meaning(self) -> &'static str {
         let place = (self.0 as usize).wrapping_sub(1);
@@ -59,14 +61,23 @@ impl Refusal {
 /// A length comes back with this added.
 const LENGTH_MARK: u64 = 1 << 32;
 
-/// The length of the answer list that is due for a sheet, in numbers.
-pub fn answers_length(sheet: &[u8]) -> Result<usize, Refusal> {
-    // SAFETY: the pointer and the length are those of one slice, which the call only reads.
-    let answer = unsafe { silo_sys::silo_answers_length(sheet.as_ptr(), sheet.len()) };
+fn length(answer: u64) -> Result<usize, Refusal> {
     match answer.checked_sub(LENGTH_MARK) {
         Some(length) => Ok(length as usize),
         None => Err(Refusal(answer as u32)),
     }
+}
+
+/// The length of the answer list that is due for a sheet, in numbers.
+pub fn answers_length(sheet: &[u8]) -> Result<usize, Refusal> {
+    // SAFETY: the pointer and the length are those of one slice, which the call only reads.
+    length(unsafe { silo_sys::silo_answers_length(sheet.as_ptr(), sheet.len()) })
+}
+
+/// The length of a sheet's load page, in bytes.
+pub fn page_length(sheet: &[u8]) -> Result<usize, Refusal> {
+    // SAFETY: the pointer and the length are those of one slice, which the call only reads.
+    length(unsafe { silo_sys::silo_page_length(sheet.as_ptr(), sheet.len()) })
 }
 
 fn done(answer: u32) -> Result<(), Refusal> {
@@ -82,6 +93,19 @@ pub fn fill_loads(sheet: &[u8], answers: &mut [u32]) -> Result<(), Refusal> {
     done(unsafe {
         silo_sys::silo_loads(sheet.as_ptr(), sheet.len(), answers.as_mut_ptr(), answers.len())
     })
+}
+
+/// Writes the load page at the buffer's start; the bytes past it keep what they held. On refusal the buffer is as it was.
+pub fn fill_page(sheet: &[u8], page: &mut [u8]) -> Result<(), Refusal> {
+    // SAFETY: each pointer comes with its own slice's length; `page` is borrowed mutably, so it overlaps nothing.
+    done(unsafe { silo_sys::silo_page(sheet.as_ptr(), sheet.len(), page.as_mut_ptr(), page.len()) })
+}
+
+/// The load page of a sheet: ASCII, in lines.
+pub fn page(sheet: &[u8]) -> Result<Vec<u8>, Refusal> {
+    let mut page = vec![0; page_length(sheet)?];
+    fill_page(sheet, &mut page)?;
+    Ok(page)
 }
 
 /// Writes the product record of a row of table 7.1; wall 0 is steel and wall 1 concrete. On refusal the buffer is as it was.

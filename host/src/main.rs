@@ -15,6 +15,7 @@ silo: wall loads of grain silos by ENV 1991-4, from a proved library
 usage:
   silo loads FILE                     the loads as tables, or as --csv,
                                       --csv-semicolon or --json
+  silo page FILE                      the load page for the folder, plain text
   silo draw FILE -o FILE.svg          the silo to scale beside its pressures
   silo sheet FILE.silo -o FILE.sheet  the sheet of bytes that a text says
   silo explain FILE.sheet             a sheet of bytes as text
@@ -24,7 +25,8 @@ usage:
 
 options:
   -o FILE          write to FILE, whose name ends in .svg for a drawing, .sheet,
-                   .txt for tables, .csv, .json or .silo, or has no ending
+                   .txt for tables, .page or .txt for a page, .csv, .json or
+                   .silo, or has no ending
   --force          replace FILE even if it holds something else than what the
                    command writes, or a silo's text; never the file that is read
   --csv            for a spreadsheet, with commas between cells
@@ -52,15 +54,17 @@ A silo's text, one name = value unit a line, in any order; # starts a comment:
   headroom = 300 mm             or no such line: grain level with the brim
 Lengths are in mm, cm or m, weights in N/m3 or kN/m3; a decimal has a point.
 Beside product, a line weight, ratio, friction or factor replaces that number;
-wall = corrugated needs friction, which table 7.1 does not have. Without product,
-a factor left blank is taken as 1.55 (7.4 at an internal friction angle of 40
-degrees); a soft product, up to 30 degrees, needs factor = 1.35. A hopper is also
-said by hopper angle = 45 deg or outlet width = 600 mm. Optional lines for every
-output: project, customer, place, author, date, revision, note.
+wall = corrugated needs friction, which table 7.1 does not have. Without
+product, a factor left blank is taken as 1.55 (7.4 at an internal friction angle
+of 40 degrees); a soft product, up to 30 degrees, needs factor = 1.35. A hopper
+is also said by hopper angle = 45 deg or outlet width = 600 mm. Optional lines
+for every output but a page: project, customer, place, author, date, revision,
+note.
 
 examples:
   silo loads samples/wheat-tower.silo
   silo loads samples/barley-bin.silo --csv >barley.csv
+  silo page samples/wheat-tower.silo -o wheat.page
   silo draw samples/cement.silo -o cement.svg
   silo sheet samples/cement.silo -o cement.sheet
   silo explain cement.sheet
@@ -68,8 +72,9 @@ examples:
 exit status: 0 done; 1 refused by the library, with the refusal's number,
 meaning and place on standard error; 2 bad use, a text or a file that cannot be
 read, or a file that cannot be written. With --json, refusals and what cannot be
-read are an object on standard output. With 1 or 2 the file after -o stays as it
-was, but sheet writes a sheet that the library refuses.
+read are an object on standard output; page prints REFUSED and the number there,
+and the words on standard error. With 1 or 2 the file after -o stays as it was,
+but sheet writes a sheet that the library refuses.
 ";
 
 fn main() -> ExitCode {
@@ -86,7 +91,7 @@ fn bad_use(why: &str) -> Outcome {
 
 impl Task {
     fn run(&self) -> ExitCode {
-        let Some(file) = &self.file else { return finish(self.written(self.page(), None), None) };
+        let Some(file) = &self.file else { return finish(self.written(self.alone(), None), None) };
         let name: &str = if file == "-" { "standard input" } else { &file.to_string_lossy() };
         match Input::open(file) {
             Ok(input) => finish(self.run_on(name, &input), Some(&input)),
@@ -112,7 +117,8 @@ impl Task {
         }
     }
 
-    fn page(&self) -> Outcome {
+    /// What a command says that reads no file.
+    fn alone(&self) -> Outcome {
         match self.command.as_str() {
             "help" => commands::said(HELP),
             "version" => commands::said(VERSION),
@@ -123,6 +129,7 @@ impl Task {
     fn outcome(&self, name: &str, bytes: &[u8]) -> Outcome {
         match self.command.as_str() {
             "loads" => commands::loads(name, bytes, self.format, self.units),
+            "page" => commands::page(name, bytes),
             "draw" => commands::draw(name, bytes, self.units),
             "sheet" => commands::sheet(name, bytes),
             _ => commands::explain(name, bytes),
@@ -136,8 +143,8 @@ impl Task {
         self.output.as_deref().map(judged).transpose()
     }
 
-    /// Moves the output to its file. A refused silo has a sheet but no other file: what JSON says
-    /// of it is printed.
+    /// Moves the output to its file. A refused silo has a sheet but no other file: what JSON or a
+    /// page says of it is printed.
     fn written(&self, outcome: Outcome, input: Option<&Input>) -> Outcome {
         let file = outcome.status == 0 || self.command == "sheet";
         if !file || outcome.output.is_empty() {

@@ -70,6 +70,16 @@ impl Failure {
     pub fn foreign(message: String) -> Failure {
         Failure::Unread(vec![text::Error { line: None, message }].into())
     }
+
+    /// What stands in the load page's place, as the program `load_page` prints it; nothing where there is no sheet.
+    pub fn page(&self) -> String {
+        match self {
+            Failure::Unread(_) => String::new(),
+            Failure::Refused(Refused { refusal: Refusal(number), .. }) => {
+                format!("REFUSED {number}\n")
+            }
+        }
+    }
 }
 
 pub fn open_sheet(sheet: &[u8]) -> Result<Source, Failure> {

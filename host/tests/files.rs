@@ -131,7 +131,7 @@ fn the_file_that_is_read_stays() {
         ["w.silo", "./w.silo", "sub/../w.silo", absolute, "link.silo", "link.svg", "hard.svg"];
     for read in ["w.silo", "link.silo", "hard.svg"] {
         for name in names {
-            for command in ["draw", "sheet", "loads"] {
+            for command in ["draw", "sheet", "loads", "page"] {
                 let arguments = [command, read, "-o", name, "--force"];
                 folder.refuses(&mut folder.silo(&arguments), READ);
                 folder.refuses(&mut folder.silo(&arguments[..4]), READ);
@@ -170,7 +170,7 @@ fn nothing_is_printed_into_the_file_that_is_read() {
 }
 
 /// A command, the ending of what it writes, what that is, in a word, and whether the tool replaces one.
-const WRITTEN: [(&[&str], &str, &str, &str, bool); 11] = [
+const WRITTEN: [(&[&str], &str, &str, &str, bool); 13] = [
     (&["draw", "w.silo"], "svg", "a drawing", "drawing", true),
     (&["draw", "w.silo", "--kpa"], "svg", "a drawing", "drawing", true),
     (&["sheet", "w.silo"], "sheet", "a sheet", "sheet", true),
@@ -180,6 +180,8 @@ const WRITTEN: [(&[&str], &str, &str, &str, bool); 11] = [
     (&["explain", "read.sheet"], "silo", "a silo's text", "text", false),
     (&["loads", "w.silo"], "txt", "a table of loads", "table", true),
     (&["loads", "w.silo", "--kpa"], "txt", "a table of loads", "table", true),
+    (&["page", "w.silo"], "page", "a load page", "page", true),
+    (&["page", "read.sheet"], "txt", "a load page", "page", true),
     (&["catalogue"], "txt", "the catalogue", "catalogue", true),
     (&["catalogue", "--csv-semicolon"], "csv", "the catalogue's CSV", "CSV", true),
 ];
@@ -222,6 +224,9 @@ fn what_was_written_is_said_and_replaced_by_its_kind() {
     }
 }
 
+const PAGE_HEADING: &[u8; 72] =
+    b"        z      phf      pwf      pvf       PW      phe      pwe       pp";
+
 /// What a file may hold, and the words for it. Only the kind that is written is replaced.
 fn contents() -> Vec<(&'static str, Vec<u8>)> {
     let silo = ["samples/wheat-tower.silo"];
@@ -240,6 +245,8 @@ fn contents() -> Vec<(&'static str, Vec<u8>)> {
         ("the catalogue", printed(&["catalogue"])),
         ("the catalogue's CSV", printed(&["catalogue", "--csv"])),
         ("a table of loads", b"w.silo\n\n 1 2\n\nsilo 1.0.0, ENV 1991-4:1995\n\n".to_vec()),
+        ("a load page", of("page", &[])),
+        ("a load page", [&PAGE_HEADING[..], b"\r\nprinted for M. Dupont\r\n"].concat()),
         ("a silo's text", sample("wheat-tower.silo")),
         ("a silo's text", b"# mine\r\nD_x = 1\r\n Diameter=4 m\r\n".to_vec()),
         (other, b"<svg><text>our mark</text></svg>".to_vec()),
@@ -247,6 +254,9 @@ fn contents() -> Vec<(&'static str, Vec<u8>)> {
         (other, b"part,count\nbolt,400\n".to_vec()),
         (other, b"silo 1 is full\nring the miller\n".to_vec()),
         (other, b"\x04\0\x01\0 bytes of another program".to_vec()),
+        (other, [b" ", &PAGE_HEADING[..], b"\n"].concat()),
+        (other, b"z phf pwf pvf PW phe pwe pp\n".to_vec()),
+        (other, b"REFUSED 7\n".to_vec()),
         (other, b"\n".to_vec()),
         (other, b"\x89PNG\r\n\x1a\n".to_vec()),
         (other, [b"<svg ENV 1991-4", &[b' '; 1 << 20][..]].concat()),
@@ -322,12 +332,14 @@ fn links_permissions_and_folders() {
 #[test]
 fn an_ending_that_does_not_fit() {
     let folder = with_all_commands("endings");
-    let cases: [(&[&str], &str, &str); 9] = [
+    let cases: [(&[&str], &str, &str); 11] = [
         (&["draw", "w.silo"], "maize.pdf", "a drawing ends in .svg, such as maize.svg"),
         (&["draw", "w.silo"], "of/maize.v2.", "a drawing ends in .svg, such as of/maize.v2.svg"),
         (&["draw", "w.silo"], "maize.silo", "a drawing ends in .svg, such as maize.svg"),
         (&["sheet", "w.silo"], "w.svg", "a sheet ends in .sheet, such as w.sheet"),
         (&["loads", "w.silo"], "w.csv", "a table of loads ends in .txt, such as w.txt"),
+        (&["page", "w.silo"], "w.pdf", "a load page ends in .page or .txt, such as w.page"),
+        (&["page", "w.silo"], "w.silo2", "a load page ends in .page or .txt, such as w.page"),
         (&["loads", "w.silo", "--csv"], "w.txt", "CSV of loads ends in .csv, such as w.csv"),
         (&["loads", "w.silo", "--json"], "w.txt", "JSON of loads ends in .json, such as w.json"),
         (
@@ -500,6 +512,30 @@ fn a_refused_silo_has_a_sheet_alone() {
         "the sheet has the numbers as the text has them\nsilo: b.sheet: sheet written, 126 bytes\n";
     assert_eq!((status, said.ends_with(words)), (1, true), "{said}");
     assert_eq!(folder.get("b.sheet").len(), 126);
+}
+
+/// What stands in a page's place is printed, even where a file is named.
+#[test]
+fn a_refused_silo_has_no_page() {
+    let folder = Folder::new("pages");
+    folder.put("blank.silo", &sample("blank-friction.silo"));
+    folder.put("bad.silo", b"diameter = 5 furlongs\n");
+    folder.put("old.page", &sample("cement.page"));
+    let before = folder.state();
+    for (file, status, printed, words) in [
+        ("blank.silo", 1, "REFUSED 7\n", "blank.silo: refused, 7: the product is outside"),
+        ("bad.silo", 2, "", "bad.silo:1: diameter = 5 furlongs: unknown unit"),
+        ("none.silo", 2, "", "silo: none.silo: there is no such file\n"),
+    ] {
+        for more in [&[][..], &["-o", "old.page"], &["-o", "new.page"], &["-o", "new.txt"]] {
+            let ended = output(folder.silo(&["page", file]).args(more));
+            assert_eq!(ended.status.code(), Some(status));
+            assert_eq!(String::from_utf8_lossy(&ended.stdout), printed);
+            let said = String::from_utf8_lossy(&ended.stderr);
+            assert!(said.starts_with(words), "{said}");
+            assert!(before == folder.state());
+        }
+    }
 }
 
 /// JSON says why there are no loads, on standard output even where a file is named.

@@ -3,7 +3,7 @@
 
 mod common;
 
-use common::{stored, text_with, FLAT};
+use common::{stored, text_with, FLAT, HEAVIEST};
 use silo::commands::{self, Format};
 use silo::units::Units;
 
@@ -361,18 +361,6 @@ fn offered_hoppers_are_accepted() {
 /// At the greatest loads each number of a table stands apart.
 #[test]
 fn columns_never_run_together() {
-    const HEAVIEST: Changes = &[
-        ("diameter", "48 m"),
-        ("weight", "30 kN/m3"),
-        ("ratio", "1.00"),
-        ("friction", "1.00"),
-        ("factor", "2.00"),
-        ("filling eccentricity", "12 m"),
-        ("hopper height", "25 m"),
-        ("hopper run", "23999 mm"),
-        ("strakes", "24 x 3 m"),
-        ("depths", "strake edges"),
-    ];
     let numbers = |page: &str| -> Vec<Vec<String>> {
         let tables = page.split("\nNotes\n").next().unwrap_or("");
         let is_row = |line: &&str| line.trim_start().starts_with(|c: char| c.is_ascii_digit());
@@ -380,8 +368,8 @@ fn columns_never_run_together() {
         rows.map(|line| line.split_whitespace().map(|cell| cell.replace('.', "")).collect())
             .collect()
     };
-    let whole = numbers(&output(HEAVIEST, Format::Table, Units::Whole));
-    let kilo = numbers(&output(HEAVIEST, Format::Table, Units::Kilo));
+    let whole = numbers(&output(&HEAVIEST, Format::Table, Units::Whole));
+    let kilo = numbers(&output(&HEAVIEST, Format::Table, Units::Kilo));
     assert_eq!(whole.len(), 25 + 5 + 24);
     assert!(whole[24][4].len() == 8, "{:?}", whole[24]);
     for (whole, kilo) in whole.iter().zip(&kilo) {

@@ -80,7 +80,12 @@ fn samples_as_stored() {
     assert_eq!(texts.count(), SAMPLES.len());
     for (name, status) in SAMPLES {
         let file = format!("samples/{name}.silo");
-        stored(&format!("samples/{name}.expected"), &written(&["loads", &file], status));
+        let loads = run(&["loads", &file]);
+        let page = run(&["page", &file]);
+        stored(&format!("samples/{name}.expected"), &[loads.stdout, loads.stderr.clone()].concat());
+        stored(&format!("samples/{name}.page"), &page.stdout);
+        assert_eq!(page.stderr, loads.stderr, "a refusal in words");
+        assert_eq!([page.status, loads.status].map(|ended| ended.code()), [Some(status); 2]);
     }
     for (file, arguments) in OUTPUTS {
         stored(file, &written(arguments, 0));
@@ -89,7 +94,7 @@ fn samples_as_stored() {
 
 #[test]
 fn pages_as_stored() {
-    let pages: [(&[&str], i32); 41] = [
+    let pages: [(&[&str], i32); 52] = [
         (&["--version"], 0),
         (&["--help"], 0),
         (&["catalogue"], 0),
@@ -118,6 +123,17 @@ fn pages_as_stored() {
         (&["loads", "samples/cement.silo", "--force", "-o", "-"], 2),
         (&["loads", "samples/cement.silo", "-o", "samples/cement.pdf"], 2),
         (&["loads", "samples/cement.silo", "-o", "samples"], 2),
+        (&["pages", "samples/cement.silo"], 2),
+        (&["page"], 2),
+        (&["page", "samples/cement.silo", "samples/cement.silo"], 2),
+        (&["page", "samples/none.silo"], 2),
+        (&["page", "samples/cement.page"], 2),
+        (&["page", "samples/cement.silo", "--csv"], 2),
+        (&["page", "samples/cement.silo", "--csv-semicolon"], 2),
+        (&["page", "samples/cement.silo", "--json"], 2),
+        (&["page", "samples/cement.silo", "--kpa"], 2),
+        (&["page", "samples/cement.silo", "--force"], 2),
+        (&["page", "samples/cement.silo", "-o", "samples/cement.expected"], 2),
         (&["draw", "samples/cement.silo"], 2),
         (&["draw", "samples/cement.silo", "-o"], 2),
         (&["draw", "samples/cement.silo", "-o", ""], 2),
@@ -140,7 +156,13 @@ fn pages_as_stored() {
     stored("host/tests/golden/pages.txt", &page);
 }
 
-/// Text to bytes to text and back, through files; bytes give the loads that the text gives.
+#[test]
+fn help_fits_a_terminal() {
+    let help = String::from_utf8(written(&["--help"], 0)).expect("ASCII");
+    assert!(help.lines().all(|line| line.len() <= 80), "{help}");
+}
+
+/// Text to bytes to text and back, through files; bytes give the loads and the page that the text gives.
 #[test]
 fn sheets_of_the_samples() {
     for (name, status) in SAMPLES {
@@ -159,6 +181,16 @@ fn sheets_of_the_samples() {
             [run(&["loads", &text, "--csv"]), fed(&["loads", "-", "--csv"], &bytes)];
         assert_eq!(loads(&from_text.stdout), loads(&from_bytes.stdout));
         assert_eq!(from_text.status, from_bytes.status);
+        let pages = [
+            run(&["page", &text]),
+            run(&["page", sheet]),
+            fed(&["page", "-"], &sample(&format!("{name}.silo"))),
+            fed(&["page", "-", "-o", "-"], &bytes),
+        ];
+        for page in pages {
+            assert_eq!(page.stdout, sample(&format!("{name}.page")));
+            assert_eq!(page.status, from_text.status);
+        }
     }
 }
 

@@ -1,4 +1,4 @@
-//! Every refusal, from text and from bytes, against `golden/refusals.txt`; every number is the library's.
+//! Every refusal, from text and from bytes, against `golden/refusals.txt`; every number is the library's, and stands on the load page.
 
 mod common;
 
@@ -169,6 +169,9 @@ fn refused(page: &mut String, number: u32, title: &str, file: &str, bytes: &[u8]
         "{title}: {}",
         outcome.messages
     );
+    let printed = commands::page(file, bytes);
+    assert_eq!((printed.status, &printed.messages), (1, &outcome.messages), "{title}");
+    assert_eq!(printed.output, format!("REFUSED {number}\n").into_bytes(), "{title}");
     *page += &format!("== {number}: {title}\n{}\n", outcome.messages);
 }
 
@@ -259,7 +262,7 @@ fn headrooms_that_are_accepted() {
     }
 }
 
-/// 14 to 16 are faults of a host program, which this one does not make.
+/// 14 to 16 and 18 are faults of a host program, which this one does not make.
 #[test]
 fn refusals_of_a_host() {
     let sheet = sheet();
@@ -269,6 +272,12 @@ fn refusals_of_a_host() {
         assert_eq!(library::fill_loads(&sheet, &mut answers), Err(Refusal::ANSWERS_LENGTH));
         assert!(answers.iter().all(|answer| *answer == 7));
     }
+    let due = library::page_length(&sheet).expect("accepted");
+    for length in [0, 1, due - 1] {
+        let mut page = vec![7; length];
+        assert_eq!(library::fill_page(&sheet, &mut page), Err(Refusal::PAGE_LENGTH));
+        assert!(page.iter().all(|byte| *byte == 7));
+    }
     let mut record = [7; 15];
     for (row, wall) in [(10, 0), (0, 2), (u32::MAX, u32::MAX)] {
         assert_eq!(library::fill_record(row, wall, &mut record[..14]), Err(Refusal::NO_SUCH_ROW));
@@ -277,10 +286,23 @@ fn refusals_of_a_host() {
     assert_eq!(record, [7; 15]);
 }
 
+/// Of a refused sheet nothing is written, however long the buffer is, and 18 is not answered.
+#[test]
+fn a_page_is_refused_for_its_sheet_first() {
+    for (number, title, bytes) in sheets() {
+        assert_eq!(library::page_length(&bytes), Err(Refusal(number)), "{title}");
+        for length in [0, 1, 5000] {
+            let mut page = vec![7; length];
+            assert_eq!(library::fill_page(&bytes, &mut page), Err(Refusal(number)), "{title}");
+            assert!(page.iter().all(|byte| *byte == 7));
+        }
+    }
+}
+
 #[test]
 fn every_refusal_has_words() {
     let words: String =
-        (0..=18).map(|number| format!("{number}: {}\n", Refusal(number).meaning())).collect();
+        (0..=19).map(|number| format!("{number}: {}\n", Refusal(number).meaning())).collect();
     stored("host/tests/golden/meanings.txt", words.as_bytes());
 }
 
@@ -322,6 +344,7 @@ fn files_of_other_programs() {
     for (name, bytes) in files {
         let commands = [
             commands::loads(name, bytes, Format::Table, Units::Whole),
+            commands::page(name, bytes),
             commands::sheet(name, bytes),
             commands::explain(name, bytes),
             commands::draw(name, bytes, Units::Whole),

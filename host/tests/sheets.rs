@@ -4,7 +4,7 @@ mod common;
 
 use common::{sample, Random};
 use silo::commands::{self, Format, Outcome};
-use silo::library;
+use silo::library::{self, Refusal};
 use silo::text;
 use silo::units::Units;
 
@@ -61,6 +61,10 @@ fn damaged_sheets_are_judged_by_the_library_alone() {
             continue;
         }
         agrees(&commands::loads("any.sheet", &bytes, Format::Table, Units::Whole), &bytes);
+        let page = commands::page("any.sheet", &bytes);
+        agrees(&page, &bytes);
+        let refused = |refusal: Refusal| format!("REFUSED {}\n", refusal.0).into_bytes();
+        assert_eq!(page.output, library::page(&bytes).unwrap_or_else(refused));
         commands::loads("any.sheet", &bytes, Format::Csv, Units::Whole);
         commands::loads("any.sheet", &bytes, Format::Json, Units::Whole);
         let explained = commands::explain("any.sheet", &bytes);
@@ -86,6 +90,7 @@ fn random_bytes_never_stop_a_command() {
         let bytes: Vec<u8> = (0..length).map(|_| byte(&mut random)).collect();
         let commands = [
             commands::loads("any", &bytes, Format::Table, Units::Whole),
+            commands::page("any", &bytes),
             commands::explain("any", &bytes),
             commands::draw("any", &bytes, Units::Whole),
             commands::sheet("any", &bytes),

@@ -307,6 +307,7 @@ fn outputs_are_no_silos() {
         .iter()
         .map(|format| commands::loads("w.silo", &silo, *format, Units::Whole).output)
         .collect();
+    outputs.push(commands::page("w.silo", &silo).output);
     outputs.push(commands::draw("w.silo", &silo, Units::Whole).output);
     outputs.extend(formats[..3].iter().map(|format| commands::catalogue(*format).output));
     for output in outputs {

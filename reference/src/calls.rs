@@ -15,6 +15,14 @@ pub trait Library {
     unsafe fn answers_length(&self, sheet: *const [u8]) -> u64;
 
     /// # Safety
+    /// The sheet is lent whole.
+    unsafe fn page_length(&self, sheet: *const [u8]) -> u64;
+
+    /// # Safety
+    /// Sheet and buffer are lent whole and do not overlap.
+    unsafe fn page(&self, sheet: *const [u8], page: *mut [u8]) -> u32;
+
+    /// # Safety
     /// The buffer is lent whole.
     unsafe fn catalogue(&self, row: u32, wall: u32, record: *mut [u8]) -> u32;
 
@@ -23,7 +31,7 @@ pub trait Library {
     unsafe fn governing(&self, first: *const [u32], second: *const [u32]) -> u32;
 }
 
-/// What a call did that document 01 does not allow, and the bytes of its sheet.
+/// What a call did that documents 01 and 02 do not allow, and the bytes of its sheet.
 pub struct Difference {
     pub what: String,
     pub sheet: Vec<u8>,
@@ -89,20 +97,45 @@ impl Calls<'_> {
         Ok(answer)
     }
 
+    /// The answer of a call that is lent a sheet and memory of that length, and what that memory holds after it.
+    fn fill<T: Copy + PartialEq>(
+        &self,
+        sheet: &[u8],
+        untouched: T,
+        length: usize,
+        call: impl FnOnce(*const [u8], *mut [T]) -> u32,
+    ) -> Result<(u32, Vec<T>), Difference> {
+        let before = vec![untouched; length];
+        let (answer, after, spared) = self
+            .lend_sheet(sheet, |sheet| self.lend(untouched, &before, |lent| call(sheet, lent)))?;
+        expect(spared, sheet, || format!("memory beside the list or page of {length} changed"))?;
+        Ok((answer, after))
+    }
+
     /// The load call's answer, and the list of that length after it.
     pub fn loads(&self, sheet: &[u8], length: usize) -> Result<(u32, Vec<u32>), Difference> {
-        let before = vec![UNTOUCHED; length];
-        let (answer, list, spared) = self.lend_sheet(sheet, |sheet| {
+        self.fill(sheet, UNTOUCHED, length, |sheet, list| {
             // SAFETY: both are lent whole, from memory of their own.
-            self.lend(UNTOUCHED, &before, |list| unsafe { self.library.loads(sheet, list) })
-        })?;
-        expect(spared, sheet, || format!("numbers beside the list of {length} were written to"))?;
-        Ok((answer, list))
+            unsafe { self.library.loads(sheet, list) }
+        })
     }
 
     pub fn answers_length(&self, sheet: &[u8]) -> Result<u64, Difference> {
         // SAFETY: the sheet is lent whole.
         self.lend_sheet(sheet, |sheet| unsafe { self.library.answers_length(sheet) })
+    }
+
+    pub fn page_length(&self, sheet: &[u8]) -> Result<u64, Difference> {
+        // SAFETY: the sheet is lent whole.
+        self.lend_sheet(sheet, |sheet| unsafe { self.library.page_length(sheet) })
+    }
+
+    /// The page call's answer, and the buffer of that length after it.
+    pub fn page(&self, sheet: &[u8], length: usize) -> Result<(u32, Vec<u8>), Difference> {
+        self.fill(sheet, UNTOUCHED_BYTE, length, |sheet, page| {
+            // SAFETY: both are lent whole, from memory of their own.
+            unsafe { self.library.page(sheet, page) }
+        })
     }
 
     /// The catalogue call's answer, and the buffer of that length after it.

@@ -1,19 +1,29 @@
-//! The comparison of a library with document 01 and with C-11, C-13 and C-14 of document 02, for sheets of any kind.
+//! The comparison of a library with document 01 and with C-11, C-13, C-14 and C-15 of document 02, for sheets of any kind.
 //!
 //! For an accepted sheet: filling pressures and P_w inside their bands, each load made from filling equal to its formula over the
-//! filling pressures and inside its allowance, all at the load depth, nothing falling with depth. For a refused one: its number from both
-//! calls, and the list as it was. For a sheet of six records, accepted or not: the same with a headroom of 0. For every sheet
-//! made blank, accepted or not: the same with 155 and with 135 written in.
+//! filling pressures and inside its allowance, all at the load depth, nothing falling with depth; the page of these numbers. For a refused
+//! one: its number from every call, and list and buffer as they were. For a sheet of six records, accepted or not: the same with a headroom
+//! of 0. For every sheet made blank, accepted or not: the same with 155 and with 135 written in.
+
+mod pages;
 
 use crate::calls::{expect, Calls, Difference, Library, Outcome, UNTOUCHED, UNTOUCHED_BYTE};
 use crate::formulas::{self, Discharge, Filling};
 use crate::fraction::{fraction, least, whole, Fraction, Real};
 use crate::sheet::{parse, records, with_factor, Silo};
-use crate::{catalogue, governing};
+use crate::{catalogue, governing, page};
+use pages::{BUFFERS, DIGITS, EACH, EXACT};
 use std::fmt;
+use std::ops::Range;
 
-/// The refusals of the two calls that take a sheet, in their order; 13 is retired.
-pub const REFUSALS: [usize; 14] = [1, 2, 3, 4, 5, 6, 7, 8, 9, 10, 11, 17, 12, 14];
+/// The refusals of the four calls that take a sheet, in their order; 13 is retired.
+pub const REFUSALS: [usize; 15] = [1, 2, 3, 4, 5, 6, 7, 8, 9, 10, 11, 17, 12, 14, 18];
+
+/// Those of a list or buffer, lent with an accepted sheet.
+const OF_LENGTH: [usize; 2] = [14, 18];
+
+/// Room for a count by the number of a refusal.
+const NUMBERS: usize = 19;
 
 /// Kinds of silos by h/d_c: the three of the discharge factors, their limits apart.
 const SHAPES: [&str; 5] = ["below 1", "1", "between 1 and 1.5", "1.5", "above 1.5"];
@@ -61,9 +71,13 @@ pub struct Tally {
     blanks: [u64; BLANKS.len()],
     /// Sheets that are made blank, each beside the same with 135 and with 155: accepted ones, and refused ones by number.
     pub beside: [u64; BESIDE.len()],
-    blank_refused: [u64; 18],
-    /// Sheets by the number of their refusal; at 14 lists of a wrong length, each lent with an accepted sheet.
-    pub refused: [u64; 18],
+    blank_refused: [u64; NUMBERS],
+    /// Sheets by the number of their refusal; at 14 lists of a wrong length and at 18 short buffers, each lent with an accepted sheet.
+    pub refused: [u64; NUMBERS],
+    /// Page calls by the number of the sheet's refusal, 0 for an accepted one, and by their buffer.
+    pages: [[u64; BUFFERS.len()]; NUMBERS],
+    /// Numbers of pages by their digits.
+    pub digits: [u64; DIGITS + 1],
     /// Rows, and those on sheets with a headroom above 0 by their place.
     pub rows: u64,
     places: [u64; PLACES.len()],
@@ -90,11 +104,12 @@ impl Tally {
     }
 
     pub fn sheets(&self) -> u64 {
-        self.accepted() + self.refused.iter().sum::<u64>() - self.refused[14]
+        let of_length: u64 = OF_LENGTH.iter().map(|number| self.refused[*number]).sum();
+        self.accepted() + self.refused.iter().sum::<u64>() - of_length
     }
 
-    /// The kinds that accepted sheets and their rows are told apart by, with the count of each.
-    fn kinds(&self) -> [(&str, Vec<(&str, u64)>); 5] {
+    /// The kinds that accepted sheets, their rows and their page calls are told apart by, with the count of each.
+    fn kinds(&self) -> [(&str, Vec<(&str, u64)>); 6] {
         let counted = |names: &[&'static str], counts: &[u64]| {
             names.iter().copied().zip(counts.iter().copied()).collect()
         };
@@ -104,7 +119,13 @@ impl Tally {
             ("accepted with a blank factor, by h/d_c", counted(&BLANKS, &self.blanks)),
             ("accepted and made blank, beside 135", counted(&BESIDE, &self.beside)),
             ("rows under a headroom", counted(&PLACES, &self.places)),
+            ("page calls for accepted sheets, by buffer", self.page_calls(0)),
         ]
+    }
+
+    fn page_calls(&self, refusal: usize) -> Vec<(&str, u64)> {
+        let names = BUFFERS.iter().map(|(name, _)| *name);
+        names.zip(self.pages[refusal]).collect()
     }
 }
 
@@ -119,6 +140,10 @@ impl fmt::Display for Tally {
         writeln!(f, "refused, by number: {}", refused.join(", "))?;
         let blank_refused: u64 = self.blank_refused.iter().sum();
         writeln!(f, "refused and made blank, beside 135 and 155: {blank_refused}")?;
+        let refused_pages: u64 = self.pages[1..].iter().flatten().sum();
+        writeln!(f, "page calls for refused sheets: {refused_pages}")?;
+        let digits: Vec<_> = (1..=DIGITS).map(|n| format!("{n}: {}", self.digits[n])).collect();
+        writeln!(f, "numbers of pages, by digits: {}", digits.join(", "))?;
         writeln!(
             f,
             "accepted sheets had {} rows and {} strakes; {} sheets of six records beside the same with a headroom of 0",
@@ -145,15 +170,19 @@ type AtDepth = (u64, Row);
 
 pub struct Comparison<'a> {
     pub calls: Calls<'a>,
+    /// The page calls are made too.
+    pub with_pages: bool,
     pub tally: Tally,
 }
 
 impl<'a> Comparison<'a> {
     pub fn with(library: &'a dyn Library) -> Comparison<'a> {
-        Comparison { calls: Calls { library, canaries: 8 }, tally: Tally::default() }
+        let calls = Calls { library, canaries: 8 };
+        Comparison { calls, with_pages: true, tally: Tally::default() }
     }
 
-    /// Prints what was compared; an accepted sheet of each kind and each of these refusals, also with a blank factor, have to be among it.
+    /// Prints what was compared; an accepted sheet of each kind and each of these refusals, also with a blank factor, have to be among it,
+    /// and a page call with each buffer for an accepted sheet and for each of these refusals.
     pub fn report(&self, refusals: impl IntoIterator<Item = usize>) {
         println!("{}", self.tally);
         for (kind, counts) in self.tally.kinds() {
@@ -163,8 +192,14 @@ impl<'a> Comparison<'a> {
         }
         for number in refusals {
             assert!(self.tally.refused[number] > 0, "refusal {number} was never reached");
-            let blank = number == 14 || self.tally.blank_refused[number] > 0;
+            if OF_LENGTH.contains(&number) {
+                continue;
+            }
+            let blank = self.tally.blank_refused[number] > 0;
             assert!(blank, "refusal {number} was never reached with a blank factor");
+            for (buffer, count) in self.tally.page_calls(number) {
+                assert!(count > 0, "refusal {number}: no page buffer is {buffer}");
+            }
         }
     }
 
@@ -190,11 +225,12 @@ impl<'a> Comparison<'a> {
         }
     }
 
-    /// The number from both calls, and each list as it was.
-    fn refusal(&self, bytes: &[u8], refusal: u64, lengths: &[usize]) -> Outcome {
+    /// The number from every call, and each list and buffer as it was.
+    fn refusal(&mut self, bytes: &[u8], refusal: u64, lengths: &[usize]) -> Outcome {
         let told = self.calls.answers_length(bytes)?;
         expect(told == refusal, bytes, || format!("answers_length {told}, refusal {refusal} due"))?;
-        lengths.iter().try_for_each(|length| self.untouched(bytes, refusal, *length))
+        lengths.iter().try_for_each(|length| self.untouched(bytes, refusal, *length))?;
+        self.pages(bytes, Err(refusal), EACH)
     }
 
     /// A refused sheet with a whole product record, its factor made blank: still refused, and alike with 135 and 155, since each of these
@@ -233,7 +269,7 @@ impl<'a> Comparison<'a> {
         Ok(())
     }
 
-    /// Six records, accepted or not, and the same with a headroom of 0: both calls answer alike, and leave alike lists.
+    /// Six records, accepted or not, and the same with a headroom of 0: all calls answer alike, and leave alike lists and buffers.
     fn zero_headroom(&mut self, silo: &Silo, lengths: &[usize]) -> Outcome {
         if silo.headroom.is_some() {
             return Ok(());
@@ -245,6 +281,7 @@ impl<'a> Comparison<'a> {
             let alike = self.calls.loads(&six, *length)? == self.calls.loads(&seven, *length)?;
             expect(alike, &seven, || format!("list of {length} differs with a headroom of 0"))?;
         }
+        self.same_pages(&six, &seven, page::length(silo))?;
         self.tally.zero_headrooms += 1;
         Ok(())
     }
@@ -258,8 +295,17 @@ impl<'a> Comparison<'a> {
         expect(same, bytes, || format!("refusal {refusal} changed the list of {length}"))
     }
 
-    /// The list of an accepted sheet.
-    pub fn answers(&self, silo: &Silo) -> Result<Vec<u64>, Difference> {
+    /// The list of an accepted sheet, whose page has its numbers.
+    pub fn answers(&mut self, silo: &Silo) -> Result<Vec<u64>, Difference> {
+        self.answers_and_pages(silo, EXACT)
+    }
+
+    /// The same, the page call made with each of these buffers.
+    fn answers_and_pages(
+        &mut self,
+        silo: &Silo,
+        buffers: Range<usize>,
+    ) -> Result<Vec<u64>, Difference> {
         let (bytes, due) = (silo.sheet(), silo.answers_length());
         let told = self.calls.answers_length(&bytes)?;
         expect(told == (1 << 32) + due as u64, &bytes, || {
@@ -267,14 +313,16 @@ impl<'a> Comparison<'a> {
         })?;
         let (answer, list) = self.calls.loads(&bytes, due)?;
         expect(answer == 0, &bytes, || format!("answer {answer} for an accepted sheet"))?;
-        Ok(list.into_iter().map(u64::from).collect())
+        let list: Vec<u64> = list.into_iter().map(u64::from).collect();
+        self.pages(&bytes, Ok((silo, &list)), buffers)?;
+        Ok(list)
     }
 
     /// An accepted sheet, beside one that lists its lower edges: the last of them is V.
     pub fn accepted(&mut self, silo: &Silo) -> Outcome {
         let bytes = silo.sheet();
         let at_edges = Silo { depths: silo.edges(), ..silo.clone() };
-        let (list, edge_list) = (self.answers(silo)?, self.answers(&at_edges)?);
+        let (list, edge_list) = (self.answers_and_pages(silo, EACH)?, self.answers(&at_edges)?);
         let (listed, edges) = (rows(silo, &list), rows(&at_edges, &edge_list));
         let fillings: Vec<Filling> =
             at_edges.depths.iter().map(|z| formulas::filling(silo, *z)).collect();
@@ -309,7 +357,7 @@ impl<'a> Comparison<'a> {
     }
 
     /// The rows that an accepted sheet lists.
-    fn listed(&self, silo: &Silo) -> Result<Vec<AtDepth>, Difference> {
+    fn listed(&mut self, silo: &Silo) -> Result<Vec<AtDepth>, Difference> {
         Ok(at_load_depths(silo, rows(silo, &self.answers(silo)?)))
     }
 

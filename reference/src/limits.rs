@@ -1,5 +1,5 @@
-//! Every limit of document 01, and of C-11, C-13 and C-14 of document 02: sheets with the value at it, below it and above it, each with
-//! the number due; 0 is acceptance.
+//! Every limit of document 01, and of C-11, C-13, C-14 and C-15 of document 02: sheets with the value at it, below it and above it, each
+//! with the number due; 0 is acceptance.
 
 use crate::inputs::{equal_strakes, sample};
 use crate::sheet::{record, Silo};
@@ -108,7 +108,7 @@ pub fn sheets() -> Vec<Due> {
         headrooms(),
         heights(),
     ];
-    let accepted = factors().into_iter().chain(lowest()).map(|silo| (silo, 0));
+    let accepted = [factors(), lowest(), pages()].concat().into_iter().map(|silo| (silo, 0));
     let silos = values.concat().into_iter().chain(whole_loads()).chain(accepted);
     let sheets = silos.map(|(silo, due)| (silo.sheet(), due));
     [cut_or_extended(), kinds(), lengths()].concat().into_iter().chain(sheets).collect()
@@ -337,6 +337,28 @@ fn lowest() -> Vec<Silo> {
     for section in [vec![500], vec![500, 50_000], vec![50_000, 500]] {
         let hoppers = [0, 299, 300, 301, 549, 550, 551].map(|height| (height, height.min(200)));
         silos.extend(hoppers.map(|hopper| lowest(&section, hopper)));
+    }
+    silos
+}
+
+/// Pages of the fewest and the most lines, with the least and the greatest numbers, the depths where z has a digit more among them: every
+/// size at its lower end, and at its upper one, where P_w has eight digits; over a flat floor and over a hopper.
+pub fn pages() -> Vec<Silo> {
+    let least = Silo { section: vec![500], weight: 1_000, ratio: 20, friction: 10, ..sample() };
+    let greatest = Silo { section: vec![50_000], weight: 30_000, ratio: 100, ..sample() };
+    let greatest = Silo { friction: 100, factor: 200, e_i: 12_500, ..greatest };
+    let ends = [(Silo { factor: 100, ..least }, 200, (1, 1)), (greatest, 3_000, (25_000, 24_999))];
+    let mut silos = Vec::new();
+    for (silo, height, hopper) in ends {
+        for (count, (hopper_height, run)) in [(1, FLAT), (1, hopper), (24, FLAT), (24, hopper)] {
+            let wall = Silo { strakes: vec![height; count], hopper_height, run, ..silo.clone() };
+            let foot = wall.foot();
+            let tens = [0, 1, 9, 10, 99, 100, 999, 1_000, 9_999, 10_000, foot];
+            let tens = tens.into_iter().filter(|z| *z <= foot).collect();
+            let most = (0..200).map(|i| i * foot / 199).collect();
+            let listed = [vec![0], vec![foot], tens, most];
+            silos.extend(listed.map(|depths| Silo { depths, ..wall.clone() }));
+        }
     }
     silos
 }

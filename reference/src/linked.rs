@@ -16,6 +16,17 @@ impl Library for Linked {
         unsafe { silo_sys::silo_answers_length(sheet.cast(), sheet.len()) }
     }
 
+    unsafe fn page_length(&self, sheet: *const [u8]) -> u64 {
+        // SAFETY: the pointer goes with its own length, and the caller lends the sheet whole.
+        unsafe { silo_sys::silo_page_length(sheet.cast(), sheet.len()) }
+    }
+
+    unsafe fn page(&self, sheet: *const [u8], page: *mut [u8]) -> u32 {
+        let (sheet_len, page_len) = (sheet.len(), page.len());
+        // SAFETY: each pointer goes with its own length, and the caller lends both whole.
+        unsafe { silo_sys::silo_page(sheet.cast(), sheet_len, page.cast(), page_len) }
+    }
+
     unsafe fn catalogue(&self, row: u32, wall: u32, record: *mut [u8]) -> u32 {
         // SAFETY: the pointer goes with its own length, and the caller lends the buffer whole.
         unsafe { silo_sys::silo_catalogue(row, wall, record.cast(), record.len()) }

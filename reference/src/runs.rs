@@ -4,7 +4,8 @@ use crate::calls::{expect, Difference, Outcome};
 use crate::catalogue::TABLE;
 use crate::compare::Comparison;
 use crate::inputs::{self, Random};
-use crate::limits::Due;
+use crate::limits::{self, Due};
+use crate::page;
 use crate::sheet::parse;
 use std::collections::BTreeMap;
 
@@ -19,6 +20,14 @@ pub fn table(comparison: &mut Comparison, sheets: &[Due]) -> Outcome {
         comparison.sheet(bytes, &LISTS)?;
     }
     Ok(())
+}
+
+/// Page buffers of 2^16 bytes and more, short by the lowest two bytes of their length.
+pub fn long_buffers(comparison: &mut Comparison) -> Outcome {
+    limits::pages().iter().try_for_each(|silo| {
+        let due = page::length(silo);
+        comparison.page_in(silo, &[1 << 16, (1 << 16) + due - 1, 1 << 20])
+    })
 }
 
 /// Random accepted silos, one in 32 of them heavy.

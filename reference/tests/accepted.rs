@@ -10,5 +10,5 @@ use reference::runs;
 fn every_load_of_accepted_sheets() {
     let mut comparison = Comparison::with(&Linked);
     runs::accepted(&mut comparison, &mut Random::new(1_991), 3_000).unwrap();
-    comparison.report(14..=14);
+    comparison.report([14, 18]);
 }

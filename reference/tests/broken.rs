@@ -1,9 +1,12 @@
 //! Broken stand-ins for the library: the comparison has to find each of them in what the other tests compare.
 //!
 //! Each calls the library and changes what it leaves or answers: the worthless versions of document 01, its traps, single numbers and
-//! limits one off, other discharge factors, a headroom or a blank factor that is read otherwise, rules in another order, and memory that is
-//! written to where it must not be.
+//! limits one off, other discharge factors, a headroom or a blank factor that is read otherwise, rules in another order, pages of another
+//! layout, and memory that is written to where it must not be.
 
+mod pages;
+
+use pages::{page, page_length, Pages, WritePage};
 use reference::calls::{Library, Outcome, UNTOUCHED};
 use reference::compare::Comparison;
 use reference::exponential::exponential;
@@ -21,12 +24,15 @@ type Governing = fn(&[u32], &[u32]) -> u32;
 type Write = fn(*mut u8, *mut [u32]);
 type WriteLists = fn(*mut [u32], *mut [u32]);
 
-/// The calls, and what they write to besides: the load call the sheet from its first byte on, or the list; the governing call its lists.
+/// The calls, and what they write to besides: the load call the sheet from its first byte on, or the list; the page call likewise the
+/// sheet or the buffer; the governing call its lists.
 struct Broken {
     loads: Loads,
     answers_length: Length,
+    pages: Pages,
     governing: Governing,
     write: Write,
+    write_page: WritePage,
     write_lists: WriteLists,
 }
 
@@ -43,6 +49,18 @@ impl Library for Broken {
         unsafe { (self.answers_length)(&*sheet) }
     }
 
+    unsafe fn page_length(&self, sheet: *const [u8]) -> u64 {
+        // SAFETY: the sheet is lent whole, and nothing writes to it.
+        self.pages.length(unsafe { &*sheet })
+    }
+
+    unsafe fn page(&self, sheet: *const [u8], page: *mut [u8]) -> u32 {
+        // SAFETY: both are lent whole and do not overlap, and the references end with the call.
+        let answer = unsafe { self.pages.page(&*sheet, &mut *page) };
+        (self.write_page)(sheet.cast_mut().cast(), page);
+        answer
+    }
+
     unsafe fn catalogue(&self, row: u32, wall: u32, record: *mut [u8]) -> u32 {
         // SAFETY: the caller's own promise.
         unsafe { Linked.catalogue(row, wall, record) }
@@ -57,8 +75,15 @@ impl Library for Broken {
 }
 
 /// The library itself.
-const WHOLE: Broken =
-    Broken { loads, answers_length, governing, write: |_, _| (), write_lists: |_, _| () };
+const WHOLE: Broken = Broken {
+    loads,
+    answers_length,
+    pages: pages::WHOLE,
+    governing,
+    write: |_, _| (),
+    write_page: |_, _| (),
+    write_lists: |_, _| (),
+};
 
 fn loads(sheet: &[u8], list: &mut [u32]) -> u32 {
     // SAFETY: each pointer is a slice's own.
@@ -801,11 +826,20 @@ const WRITES: &[(&str, Write)] = &[
     }),
 ];
 
-/// The sheets of the other tests, as many of each random kind.
+/// The sheets of the other tests, as many of each random kind, without their pages: these would tell the library's own numbers from those
+/// of a broken load call.
 fn compared(library: &dyn Library) -> Outcome {
-    let mut comparison = Comparison::with(library);
+    compared_by(Comparison { with_pages: false, ..Comparison::with(library) })
+}
+
+fn compared_pages(library: &dyn Library) -> Outcome {
+    compared_by(Comparison::with(library))
+}
+
+fn compared_by(mut comparison: Comparison) -> Outcome {
     let mut random = Random::new(1_991);
     runs::table(&mut comparison, &order::sheets())?;
+    runs::long_buffers(&mut comparison)?;
     runs::table(&mut comparison, &limits::sheets())?;
     runs::accepted(&mut comparison, &mut random, 3_000)?;
     runs::pairs(&mut comparison, &mut random, 2_000)
@@ -849,6 +883,24 @@ fn broken_length_calls_are_found() {
 }
 
 #[test]
+fn broken_page_calls_are_found() {
+    let laid = pages::LAYOUTS.iter().map(|(name, layout)| (name, Pages::Laid(*layout)));
+    let calls = pages::CALLS.iter().map(|(name, page)| (name, Pages::Calls(*page, page_length)));
+    let lengths = pages::LENGTHS.iter().map(|(name, length)| (name, Pages::Calls(page, *length)));
+    for (name, pages) in laid.chain(calls).chain(lengths) {
+        is_found(name, compared_pages(&Broken { pages, ..WHOLE }));
+    }
+}
+
+#[test]
+fn the_same_layout_is_no_difference() {
+    let same = Broken { pages: pages::SAME, ..WHOLE };
+    let mut comparison = Comparison::with(&same);
+    runs::table(&mut comparison, &order::sheets()).unwrap();
+    runs::long_buffers(&mut comparison).unwrap();
+}
+
+#[test]
 fn broken_governing_calls_are_found() {
     for (name, governing) in CHOICES {
         is_found(name, compared_governing(&Broken { governing: *governing, ..WHOLE }));
@@ -859,6 +911,9 @@ fn broken_governing_calls_are_found() {
 fn stray_writes_are_found() {
     for (name, write) in WRITES {
         is_found(name, compared(&Broken { write: *write, ..WHOLE }));
+    }
+    for (name, write_page) in pages::WRITES {
+        is_found(name, compared_pages(&Broken { write_page: *write_page, ..WHOLE }));
     }
     for (name, write_lists) in LIST_WRITES {
         is_found(name, compared_governing(&Broken { write_lists: *write_lists, ..WHOLE }));

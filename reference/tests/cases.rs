@@ -136,12 +136,12 @@ fn accepted_and_refused_as_written() {
     sheets.extend(behind.map(|(silo, bytes, due)| ([silo.sheet(), bytes].concat(), due)));
     let mut comparison = Comparison::with(&Linked);
     runs::table(&mut comparison, &sheets).unwrap();
-    comparison.report([2, 3, 4, 5, 7, 8, 9, 11, 17, 12, 14]);
+    comparison.report([2, 3, 4, 5, 7, 8, 9, 11, 17, 12, 14, 18]);
 }
 
 /// The lists with a blank factor and with another.
 fn beside_blank(factor: u64) -> [Vec<u64>; 2] {
-    let comparison = Comparison::with(&Linked);
+    let mut comparison = Comparison::with(&Linked);
     [0, factor].map(|factor| comparison.answers(&with(|silo| silo.factor = factor)).unwrap())
 }
 

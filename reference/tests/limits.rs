@@ -1,4 +1,4 @@
-//! Every limit of document 01, of C-11, C-13 and C-14 at, below and above, and sheets that break two rules at once.
+//! Every limit of document 01, of C-11, C-13, C-14 and C-15 at, below and above, and sheets that break two rules at once.
 
 use reference::compare::{Comparison, REFUSALS};
 use reference::formulas::Discharge;
@@ -11,6 +11,8 @@ fn every_limit_at_below_and_above() {
     let mut comparison = Comparison::with(&Linked);
     runs::table(&mut comparison, &limits::sheets()).unwrap();
     comparison.report(REFUSALS);
+    let [_, to_eight @ .., nine] = comparison.tally.digits;
+    assert!(to_eight.iter().all(|numbers| *numbers > 0) && nine == 0, "digits of a page's numbers");
 }
 
 #[test]
@@ -18,7 +20,7 @@ fn of_two_broken_rules_the_first_is_the_refusal() {
     let mut comparison = Comparison::with(&Linked);
     let sheets = order::sheets();
     runs::table(&mut comparison, &sheets).unwrap();
-    comparison.report((1..=12).chain([17]));
+    comparison.report((1..=12).chain([17, 18]));
 }
 
 #[test]

@@ -17,6 +17,13 @@ extern "C" {
     /// The answer list's length in numbers. Answers 2^32 plus that length; or a refusal, 1 to 12 or 17.
     pub fn silo_answers_length(sheet: *const u8, sheet_len: usize) -> u64;
 
+    /// The page's length in bytes. Answers 2^32 plus that length; or a refusal, 1 to 12 or 17.
+    pub fn silo_page_length(sheet: *const u8, sheet_len: usize) -> u64;
+
+    /// Writes the page of a sheet at the buffer's start; the bytes past it keep what they held. Answers 0; or a refusal, 1 to 12, 17 or
+    /// 18, and the buffer is as it was.
+    pub fn silo_page(sheet: *const u8, sheet_len: usize, page: *mut u8, page_len: usize) -> u32;
+
     /// Writes the product record of a row of table 7.1; wall 0 is steel, wall 1 concrete. Answers 0; or a refusal, 15 or 16, and the
     /// buffer is as it was.
     pub fn silo_catalogue(row: u32, wall: u32, record: *mut u8, record_len: usize) -> u32;

@@ -2,19 +2,15 @@
 -- Assumes nothing.
 use Prim.Native.Nat.{ℕ}
 use mathlib.Core.Path.{_≡_, refl, sym, _∙_, subst}
-use mathlib.Core.Bool.{false}
-use mathlib.Core.List.{List, [], _∷_, _++_}
+use mathlib.Core.List.{List, [], _∷_}
 use native.Mathlib.Omega.{arith}
 use borrow.Author.Tests.{eq-eqb, ne-eqb}
 use lib.Dec.{eqb}
 use lib.ListN.{length}
 use Rattle.janssen.specs.program.Pressure.{computed}
-use Rattle.records.specs.Rules.{Rule, _unless_, first-unmet}
-use Rattle.records.specs.Format.{record-rules, records-rules}
-use Rattle.records.proofs.Chain.{stopped, skipped, apart, has, absent}
-use Rattle.sheet.specs.Refusal.{value-rules, sheet-rules, refusal-of}
-use Rattle.sheet.proofs.Acceptance.{sheet-numbered}
-use Rattle.sheet.proofs.Layouts.{by-count}
+use Rattle.records.specs.Rules.{_unless_, first-unmet}
+use Rattle.sheet.specs.Refusal.{refusal-of}
+use Rattle.sheet.proofs.Acceptance.{sheet-first, sheet-passed, sheet-met, call-never-13}
 use Rattle.answers.specs.Length.{length-due}
 use Rattle.answers.specs.Answers.{Filled, loads-rules}
 use Rattle.answers.specs.Promise.{Promise}
@@ -22,26 +18,23 @@ use Rattle.answers.specs.program.Fill.{answers}
 use Rattle.answers.proofs.Places.{answers-filled}
 use Rattle.answers.proofs.Demand.{claim}
 
--- 13 is no rule of the load call either
-pub loads-never-13 : (s : List ℕ) (n : ℕ) → first-unmet (loads-rules s n) ≡ 13 → ⊥
-unfolding loads-rules sheet-rules records-rules record-rules value-rules
-loads-never-13 s n =
-    absent (loads-rules s n) 13 (omega arith)
-    (by-count s (λ (l : List Rule). has (l ++ value-rules s ++ (14 unless eqb n (length-due s) ∷ [])) 13 ≡ false) refl refl)
-
--- what the load call answers for a list of n numbers: the sheet's refusal, or 14
+-- what the load call answers for a list of n numbers: the sheet's refusal, or 14; never 13
 module _ (s : List ℕ) (n : ℕ) where
+  pub loads-never-13 : first-unmet (loads-rules s n) ≡ 13 → ⊥
+  unfolding loads-rules
+  loads-never-13 = call-never-13 s _ refl
+
   pub refused-answer : (refusal-of s ≡ 0 → ⊥) → first-unmet (loads-rules s n) ≡ refusal-of s
-  unfolding loads-rules refusal-of
-  refused-answer h = stopped _ (sheet-rules s) h
+  unfolding loads-rules
+  refused-answer h = sheet-first s _ h
 
   pub last-rule : refusal-of s ≡ 0 → first-unmet (loads-rules s n) ≡ first-unmet (14 unless eqb n (length-due s) ∷ [])
-  unfolding loads-rules refusal-of
-  last-rule h = skipped _ (sheet-rules s) (sheet-numbered s) h
+  unfolding loads-rules
+  last-rule h = sheet-passed s _ h
 
   pub not-refused : first-unmet (loads-rules s n) ≡ 0 → refusal-of s ≡ 0
-  unfolding loads-rules refusal-of
-  not-refused h = apart _ (sheet-rules s) (sheet-numbered s) h .0
+  unfolding loads-rules
+  not-refused h = sheet-met s _ h
 
 module _ (s lent : List ℕ) where
   -- any refusal leaves the list as it was

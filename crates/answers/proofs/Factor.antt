@@ -143,10 +143,10 @@ module _ (s : List ℕ) (b : Blank s) where
   abbrev written : List ℕ
   written = with-factor 155 s
 
-  same-refusal : refusal-of s ≡ refusal-of written
+  pub same-refusal : refusal-of s ≡ refusal-of written
   same-refusal = blank-refusal s b 155 (omega arith) (omega arith)
 
-  same-silo : refusal-of s ≡ 0 → OneSilo s written
+  pub same-silo : refusal-of s ≡ 0 → OneSilo s written
   same-silo h =
       let l = accepted s h .layout in
       record {

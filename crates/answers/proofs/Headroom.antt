@@ -82,7 +82,7 @@ module _ (s : List ℕ) (six : place s 6 ≡ length s) where
     pub level-refusal : refusal-of s ≡ refusal-of (s ++ level)
     level-refusal = refusal-same s (s ++ level) (records-by (decLe (first-unmet (layout-rules s)) 0)) values-kept
 
-    level-silo : refusal-of s ≡ 0 → OneSilo s (s ++ level)
+    pub level-silo : refusal-of s ≡ 0 → OneSilo s (s ++ level)
     level-silo h = let l = accepted s h .layout in record { parts = parts-kept l; silos = silo-kept l }
 
     pub level-length : answers-length s ≡ answers-length (s ++ level)

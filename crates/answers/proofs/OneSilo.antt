@@ -6,7 +6,6 @@ use mathlib.Core.List.{List, [], _∷_}
 use mathlib.Core.Path.{_≡_, refl, ap, sym, _∙_, subst}
 use native.Mathlib.Decide.{decLe}
 use native.Mathlib.Omega.{arith}
-use borrow.Author.Tests.{ne-eqb}
 use lib.Dec.{eqb}
 use lib.ListN.{length, getD, take}
 use Rattle.janssen.specs.Numbers.{FillingNumbers}
@@ -23,6 +22,7 @@ use Rattle.answers.specs.Length.{length-due, answers-length}
 use Rattle.answers.specs.Answers.{silo-of, depth, load-in, strake-in, Filled, loads-rules}
 use Rattle.answers.specs.Promise.{Promise}
 use Rattle.answers.proofs.Places.{filled-once}
+use Rattle.answers.proofs.LengthLaws.{told-same}
 use Rattle.answers.proofs.Call.{last-rule, refused-answer, not-refused}
 
 -- the same silo, wall and depths
@@ -49,7 +49,7 @@ module _ (s s' : List ℕ) where
         ∙ ap (λ (d : List ℕ). number f (silo-of s') p-he (sum (take (suc k) d))) (sym (p .strakes))
 
   -- what fills the answers of the other fills those of s
-  filled-same : OneSilo s s' → (f : FillingNumbers) (list : List ℕ) → Filled f s' list → Filled f s list
+  pub filled-same : OneSilo s s' → (f : FillingNumbers) (list : List ℕ) → Filled f s' list → Filled f s list
   filled-same o f list a =
       let p = o .parts in
       let count = p .depth-counts in
@@ -74,13 +74,8 @@ module _ (s s' : List ℕ) where
     due-by : refusal-of s ≡ 0 → length-due s ≡ length-due s'
     due-by h = due-same (one h .parts)
 
-    length-by : Dec (refusal-of s ≤ 0) → answers-length s ≡ answers-length s'
-    unfolding answers-length
-    length-by (yes z) = let h : refusal-of s ≡ 0 = omega (arith, z) in rw (sym refusals, h, sym (due-by h)) refl
-    length-by (no z) = rw (sym refusals) (simp (ne-eqb (refusal-of s) 0 (λ o. z (omega (arith, o)))))
-
     pub one-length : answers-length s ≡ answers-length s'
-    one-length = length-by (decLe (refusal-of s) 0)
+    one-length = told-same refusals due-by
 
     answer-by : (n : ℕ) → Dec (refusal-of s ≤ 0) → first-unmet (loads-rules s n) ≡ first-unmet (loads-rules s' n)
     answer-by n (yes z) =

@@ -18,7 +18,7 @@ use Rattle.loads.specs.Load.{Load}
 use Rattle.loads.specs.Load.{number, bottom-numbers}
 use Rattle.loads.specs.Load.Load.{listed-depth, p-hf, p-wf, p-vf, P-w, p-he, p-we, p-p}
 use Rattle.loads.specs.program.Basis.{depth-numbers}
-use Rattle.answers.specs.Place.{rank}
+use Rattle.answers.specs.Place.{rank, load-place, bottom-place, strake-place}
 use Rattle.answers.specs.Length.{length-due}
 use Rattle.answers.specs.Answers.{silo-of, depth, load-in, bottom-in, strake-in, Filled}
 use Rattle.answers.specs.program.Fill.{at-strake, at-depth, depths-part, bottom-part, strakes-part, answers}
@@ -120,20 +120,24 @@ by-parts E a b f g i h = go (decLt i a)
         let at : a + (i - a) ≡ i = omega arith in
         subst E at (g (i - a) (omega arith))
 
--- every place is one of a load, of the bottom or of a strake: `Filled` leaves no number of the list open
-module _ (f : FillingNumbers) (s l l' : List ℕ) (a : Filled f s l) (b : Filled f s l') where
-  abbrev Same : ℕ → Type 0
-  Same i = getD l i 0 ≡ getD l' i 0
+-- every place is one of a load, of the bottom or of a strake
+pub every-place : (s : List ℕ) (E : ℕ → Type 0) → ((l : Load) (i : ℕ) → i < depth-count s → E (load-place (depth-count s) l i))
+    → ((k : ℕ) → k < 10 → E (bottom-place (depth-count s) k)) → ((k : ℕ) → k < strake-count s → E (strake-place (depth-count s) k))
+    → (i : ℕ) → i < length-due s → E i
+unfolding length-due
+every-place s E depths bottom strakes =
+    by-parts E (8 * depth-count s + 10) (strake-count s) (by-parts E (8 * depth-count s) 10 at-load bottom) strakes
+  where
+    at-load : (i : ℕ) → i < 8 * depth-count s → E i
+    at-load i h =
+        let (x, e) = load-ranked (i % 8) (omega arith) in
+        let at : 8 * (i / 8) + rank x ≡ i = omega (arith, e) in
+        subst E at (depths x (i / 8) (omega arith))
 
-  at-load : (i : ℕ) → i < 8 * depth-count s → Same i
-  at-load i h =
-      let (x, e) = load-ranked (i % 8) (omega arith) in
-      let at : 8 * (i / 8) + rank x ≡ i = omega (arith, e) in
-      subst Same at (a .at-depths x (i / 8) (omega arith) ∙ sym (b .at-depths x (i / 8) (omega arith)))
-
-  pub filled-once : l ≡ l'
-  unfolding length-due
-  filled-once =
-      let parts = by-parts Same (8 * depth-count s) 10 at-load (λ k h. a .at-bottom k h ∙ sym (b .at-bottom k h)) in
-      let whole = by-parts Same (8 * depth-count s + 10) (strake-count s) parts (λ k h. a .at-strakes k h ∙ sym (b .at-strakes k h)) in
-      ext-getD 0 l l' (a .due ∙ sym (b .due)) (λ i h. whole i (omega (arith, a .due)))
+-- so `Filled` leaves no number of the list open
+pub filled-once : (f : FillingNumbers) (s l l' : List ℕ) → Filled f s l → Filled f s l' → l ≡ l'
+filled-once f s l l' a b =
+    let same =
+    every-place s (λ i. getD l i 0 ≡ getD l' i 0) (λ x i h. a .at-depths x i h ∙ sym (b .at-depths x i h)) (λ k h. a .at-bottom k h ∙ sym (b .at-bottom k h))
+    (λ k h. a .at-strakes k h ∙ sym (b .at-strakes k h)) in
+    ext-getD 0 l l' (a .due ∙ sym (b .due)) (λ i h. same i (omega (arith, a .due)))

@@ -1,31 +1,15 @@
--- Runs of stores: what is written part by part is what is written as a whole.
+-- Parts stored one after the other, one for each index: what is written part by part is what is written as a whole, and where each number stands.
 -- Assumes nothing.
 use Prim.Native.Nat.{ℕ, zero, suc, _+_, _-_, _*_, _≤_, _<_}
-use mathlib.Core.Path.{_≡_, _∙_}
-use mathlib.Core.List.{List, [], _∷_, _++_}
+use mathlib.Core.Path.{_≡_, refl, ap, sym, _∙_}
+use mathlib.Core.List.{List, _++_, append-assoc}
 use native.Mathlib.Nat.{add-zero, add-suc, suc-add, zero-add, not-suc-le-zero, le-of-suc-le-suc}
 use native.Mathlib.Numerals.{add-one}
 use native.Mathlib.Omega.{arith}
-use lib.ListN.{length, getD, drop, set, drop-of-length-le, length-append, List·getD-append}
-use lib.Seq.{sets, drop-cons, getD-append-add}
-use Rattle.answers.specs.program.Fill.{each}
-
-pub sets-append : (l : List ℕ) (i : ℕ) (xs ys : List ℕ) → sets l i (xs ++ ys) ≡ sets (sets l i xs) (i + length xs) ys
-sets-append l i [] ys = rw add-zero
-sets-append l i (x ∷ xs) ys = rw (add-suc, ← suc-add) (sets-append (set l i x) (suc i) xs ys)
-
--- a run of single stores: at its start, its next, and its end
-pub sets-start : (l xs : List ℕ) (at : ℕ) → sets l at xs ≡ sets l (at + 0) (drop 0 xs)
-sets-start l xs at = rw add-zero
-
-pub sets-next : (l xs : List ℕ) (at i : ℕ) → i < length xs
-    → sets l (at + i) (drop i xs) ≡ sets (set l (at + i) (getD xs i 0)) (at + (i + 1)) (drop (i + 1) xs)
-sets-next l xs at i h =
-    let e : at + (i + 1) ≡ suc (at + i) = omega arith in
-    rw (e, add-one, drop-cons xs i 0 h)
-
-pub sets-done : (l xs : List ℕ) (at i : ℕ) → length xs ≤ i → sets l (at + i) (drop i xs) ≡ l
-sets-done l xs at i h = rw (drop-of-length-le xs h)
+use lib.ListN.{length, getD, length-append, List·getD-append}
+use lib.Seq.{sets, getD-append-add}
+use Rattle.records.proofs.Stores.{sets-append}
+use Rattle.answers.specs.Each.{each}
 
 -- a run of stores of a part for each index: its next, and its end
 module _ (F : ℕ → List ℕ) where
@@ -62,3 +46,27 @@ module _ (F : ℕ → List ℕ) where
 
     pub part-at : (n at i j : ℕ) → at ≡ w * i + j → i < n → j < w → getD (each F 0 n) at 0 ≡ getD (F i) j 0
     part-at n at i j e h g = rw e (each-at 0 n i j h g ∙ rw zero-add)
+
+-- equal parts
+pub each-same : (F G : ℕ → List ℕ) (k n : ℕ) → ((i : ℕ) → k ≤ i → i < k + n → F i ≡ G i) → each F k n ≡ each G k n
+unfolding each
+each-same F G k zero h = refl
+each-same F G k (suc n) h = rw (h k (omega arith) (omega arith), each-same F G (suc k) n (λ i a b. h i (omega arith) (omega arith))) refl
+
+-- the parts of a indices, and of the b after them, counted from 0 again
+each-shift : (F : ℕ → List ℕ) (a k n : ℕ) → each F (a + k) n ≡ each (λ (i : ℕ). F (a + i)) k n
+unfolding each
+each-shift F a k zero = refl
+each-shift F a k (suc n) = ap (λ (l : List ℕ). F (a + k) ++ l) (rw (← add-suc) (each-shift F a (suc k) n))
+
+each-append : (F : ℕ → List ℕ) (k a b : ℕ) → each F k (a + b) ≡ each F k a ++ each F (k + a) b
+unfolding each
+each-append F k zero b = rw (zero-add, add-zero) refl
+each-append F k (suc a) b =
+    rw (suc-add, add-suc, ← suc-add)
+    (ap (λ (l : List ℕ). F k ++ l) (each-append F (suc k) a b) ∙ sym (append-assoc (F k) (each F (suc k) a) (each F (suc k + a) b)))
+
+pub each-split : (F : ℕ → List ℕ) (a b : ℕ) → each F 0 (a + b) ≡ each F 0 a ++ each (λ (i : ℕ). F (a + i)) 0 b
+each-split F a b =
+    let e : 0 + a ≡ a + 0 = omega arith in
+    each-append F 0 a b ∙ ap (λ (n : ℕ). each F 0 a ++ each F n b) e ∙ ap (λ (l : List ℕ). each F 0 a ++ l) (each-shift F a 0 b)

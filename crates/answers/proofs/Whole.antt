@@ -23,8 +23,7 @@ use Rattle.answers.specs.Length.{length-due}
 use Rattle.answers.specs.Answers.{silo-of, depth}
 use Rattle.answers.specs.program.Fill.{silo-in, basis-of, depths-part, bottom-part, strakes-part, answers}
 use Rattle.answers.proofs.Places.{length-depths-part, length-bottom-part, length-answers}
-use Rattle.records.proofs.Stores.{sets-whole}
-use Rattle.answers.proofs.Stores.{sets-append}
+use Rattle.records.proofs.Stores.{sets-append, sets-whole}
 use Rattle.answers.proofs.Demand.{silo-fits, reached}
 
 module _ (s : List ℕ) where

@@ -1,3 +1,4 @@
+pub mod Each
 pub mod Place
 pub mod Length
 pub mod Answers

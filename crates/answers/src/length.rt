@@ -1,11 +1,11 @@
 // The length call: how many numbers the answer list of a sheet has.
 ghost use mathlib.Core.Path.{_≡_};
 ghost use Prim.Native.Nat.{_<_, _≤_};
-ghost use Rattle.answers.specs.Length.{answers-length, answers-length-number};
+ghost use Rattle.answers.specs.Length.{told, answers-length, length-number};
 ghost use Rattle.answers.specs.Place.{strake-place};
 
-// What the length call answers: the length due in u32 numbers, or the refusal's number.
-pub enum AnswersLength {
+// What a call that tells a length answers: the length due, or the refusal's number.
+pub enum Length {
     Due(u32),
     Refused(u32),
 }
@@ -19,31 +19,36 @@ pub fn length_due(depths: usize, strakes: usize) -> usize
 }
 
 // The length call: the length that the answer list of a sheet must have, or the refusal.
-pub fn answers_length(sheet: &[u8]) -> AnswersLength
+pub fn answers_length(sheet: &[u8]) -> Length
     ensures { λ r. ⌜ r ≡ answers-length (now (sheet .entry)) ⌝ }
 {
-    let mut places = [0usize; 7];
-    let refused = records::layout::find_records(sheet, &mut places);
-    if refused != 0 {
-        return AnswersLength::Refused(refused);
-    }
-    let judged = sheet::judge(sheet, &places);
-    if judged.refused != 0 {
-        return AnswersLength::Refused(judged.refused);
-    }
-    AnswersLength::Due(
-        length_due(judged.described.depths.count, judged.described.wall.count) as u32,
+    let judged = sheet::examine(sheet);
+    let described = judged.described;
+    Length::told(
+        judged.refused,
+        length_due(described.depths.count, described.wall.count),
     )
 }
 
-impl AnswersLength {
+impl Length {
+    // The length due, or the refusal where there is one.
+    pub fn told(refused: u32, due: usize) -> Self
+        requires { ⌜ due < 4294967296 ⌝ }
+        ensures { λ r. ⌜ r ≡ told refused due ⌝ }
+    {
+        if refused != 0 {
+            return Self::Refused(refused);
+        }
+        Self::Due(due as u32)
+    }
+
     // The number of an answer: 2^32 + the length, or the refusal's number.
     pub fn number(self) -> u64
-        ensures { λ r. ⌜ r ≡ answers-length-number self ⌝ }
+        ensures { λ r. ⌜ r ≡ length-number self ⌝ }
     {
         match self {
-            AnswersLength::Due(length) => 4294967296 + length as u64,
-            AnswersLength::Refused(refused) => refused as u64,
+            Length::Due(length) => 4294967296 + length as u64,
+            Length::Refused(refused) => refused as u64,
         }
     }
 }

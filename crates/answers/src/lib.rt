@@ -2,19 +2,14 @@
 ghost use Rattle.janssen.specs.program.Pressure.{computed};
 ghost use Rattle.answers.specs.Promise.{Promise};
 
-mod fill; // the answer list, part by part
+pub mod fill; // the answer list, part by part
 pub mod length; // the call that tells its length
 
 // The load call: 0 with the list filled, or the number of the first refusal with the list as it was.
 pub fn loads(sheet: &[u8], answers: &mut [u32]) -> u32
     ensures { λ r. ⌜ Promise computed (now (sheet .entry)) (now (answers .entry)) r (now (answers .exit)) ⌝ }
 {
-    let mut places = [0usize; 7];
-    let refused = records::layout::find_records(sheet, &mut places);
-    if refused != 0 {
-        return refused;
-    }
-    let judged = sheet::judge(sheet, &places);
+    let judged = sheet::examine(sheet);
     if judged.refused != 0 {
         return judged.refused;
     }

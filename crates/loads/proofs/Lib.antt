@@ -1,2 +1,3 @@
 pub mod LoadLaws
 pub mod WithFactor
+pub mod Bounds

@@ -46,7 +46,7 @@ unfolding bottom-numbers
 bottom-hopper f c h = simp (ne-eqb (c .run) 0 (λ e. omega arith))
 
 -- the numbers of the quarters, by k
-at-quarter : (F G : ℕ → ℕ) (k : ℕ) → k ≤ 4
+pub at-quarter : (F G : ℕ → ℕ) (k : ℕ) → k ≤ 4
     → (getD (map F quarters ++ map G quarters) k 0 ≡ F k) × (getD (map F quarters ++ map G quarters) (5 + k) 0 ≡ G k)
 at-quarter F G zero h = (refl, refl)
 at-quarter F G (suc zero) h = (refl, refl)

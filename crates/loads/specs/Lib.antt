@@ -1,3 +1,4 @@
 pub mod Load
 pub mod Holds
+pub mod Bound
 pub mod program

@@ -5,14 +5,15 @@
 --     apart          no refusal in the whole: none in each part
 --     next, last     the rules tried one after the other: one that is met leaves those behind it; one that is not is the refusal
 --     absent         a number that no rule has is never the refusal
+--     first-below    the refusal is below what all numbers are below
 -- A refusal is told from 0 by its number, so that the numbers have to be positive (`numbered`): a test that computes for every chain.
 use Prim.Native.Nat.{ℕ, zero, suc, _<_}
 use mathlib.Core.Bool.{Bool, true, false, cond, _&&_, _||_, false≢true}
 use mathlib.Core.List.{List, [], _∷_, _++_}
 use mathlib.Core.Path.{_≡_, refl, sym, _∙_}
 use native.Mathlib.Omega.{arith}
-use borrow.Author.Tests.{eq-eqb}
-use lib.Dec.{eqb}
+use borrow.Author.Tests.{eq-eqb, ltb-true}
+use lib.Dec.{eqb, ltb}
 use lib.ListN.{drop}
 use Rattle.records.specs.Rules.{Rule, _unless_, first-unmet}
 use Rattle.records.proofs.Tests.{absurd, both-true, either-right}
@@ -109,3 +110,19 @@ among (r ∷ l) n p h = among-next (r .met) (r .number) n l (among l n p) h
 
 pub absent : (l : List Rule) (n : ℕ) → 0 < n → has l n ≡ false → first-unmet l ≡ n → ⊥
 absent l n p h e = false≢true (sym h ∙ among l n p e)
+
+-- whether every rule's number is below m
+abbrev pub below : ℕ → List Rule → Bool
+below m [] = true
+below m (r ∷ l) = ltb (r .number) m && below m l
+
+below-next : (met : Bool) (k m : ℕ) (l : List Rule) → k < m → first-unmet l < m → cond met (first-unmet l) k < m
+below-next true k m l h g = g
+below-next false k m l h g = h
+
+pub first-below : (m : ℕ) (l : List Rule) → 0 < m → below m l ≡ true → first-unmet l < m
+unfolding first-unmet
+first-below m [] p h = p
+first-below m (r ∷ l) p h =
+    let q = both-true (ltb (r .number) m) (below m l) h in
+    below-next (r .met) (r .number) m l (ltb-true (r .number) m (q .0)) (first-below m l p (q .1))

@@ -1,6 +1,6 @@
 -- A sheet is not refused exactly when it is `Accepted`: no rule of the chain refuses when each is met, and each rule's test says the
 -- inequalities of `Accepted`.
-use Prim.Native.Nat.{ℕ, _*_}
+use Prim.Native.Nat.{ℕ, _*_, _<_}
 use mathlib.Core.Bool.{true, false, _&&_, _||_}
 use mathlib.Core.List.{List, _++_}
 use mathlib.Core.Logic.{_⊎_, inl, inr, ⊎-elim}
@@ -17,10 +17,13 @@ use Rattle.description.specs.declared.Bottom.{Bottom}
 use Rattle.records.specs.Rules.{Rule, within, first-unmet}
 use Rattle.records.specs.Format.{u32, record-rules, records-rules, layout-rules}
 use Rattle.records.proofs.Tests.{both-true, either-true, either-right, within-true, true-within}
-use Rattle.records.proofs.Chain.{numbered, met-at, met, apart, skipped, stopped, has, absent}
+use Rattle.records.proofs.Chain.{numbered, met-at, met, apart, skipped, stopped, has, absent, below, first-below}
 use Rattle.records.proofs.Numbers.{numbers-length}
 use Rattle.description.specs.Silo.{section-of, product-sent, eccentricities-of, bottom-of, strakes-of, depths-of, depth-count, V-of, headroom-of, h-of}
 use Rattle.description.proofs.Walls.{strakes-length}
+use Rattle.description.specs.program.Described.{described-of}
+use Rattle.sheet.specs.declared.Judged.{Judged}
+use Rattle.sheet.specs.program.Judged.{Examined}
 use Rattle.sheet.specs.Refusal.{side-met, sides-met, product-met, flat, hopper, value-rules, sheet-rules, refusal-of}
 use Rattle.sheet.specs.Accepted.{Hopper, Accepted}
 use Rattle.sheet.proofs.Heights.{strakes-met-at, at-strakes-met, rising-most, rising-next, next-rising}
@@ -178,3 +181,31 @@ never-13 s = absent (sheet-rules s) 13 (omega arith) (by-count s (λ (l : List R
 pub never-14 : (s : List ℕ) → refusal-of s ≡ 14 → ⊥
 unfolding refusal-of sheet-rules records-rules record-rules value-rules
 never-14 s = absent (sheet-rules s) 14 (omega arith) (by-count s (λ (l : List Rule). has (l ++ value-rules s) 14 ≡ false) refl refl)
+
+-- every refusal has at most two digits
+pub refusal-small : (s : List ℕ) → refusal-of s < 100
+unfolding refusal-of sheet-rules records-rules record-rules value-rules
+refusal-small s = first-below 100 (sheet-rules s) (omega arith) (by-count s (λ (l : List Rule). below 100 (l ++ value-rules s) ≡ true) refl refl)
+
+-- a call's own rules stand behind those of the sheet
+module _ (s : List ℕ) (own : List Rule) where
+  pub sheet-first : (refusal-of s ≡ 0 → ⊥) → first-unmet (sheet-rules s ++ own) ≡ refusal-of s
+  unfolding refusal-of
+  sheet-first h = stopped own (sheet-rules s) h
+
+  pub sheet-passed : refusal-of s ≡ 0 → first-unmet (sheet-rules s ++ own) ≡ first-unmet own
+  unfolding refusal-of
+  sheet-passed h = skipped own (sheet-rules s) (sheet-numbered s) h
+
+  pub sheet-met : first-unmet (sheet-rules s ++ own) ≡ 0 → refusal-of s ≡ 0
+  unfolding refusal-of
+  sheet-met h = apart own (sheet-rules s) (sheet-numbered s) h .0
+
+  -- 13 is retired
+  pub call-never-13 : has own 13 ≡ false → first-unmet (sheet-rules s ++ own) ≡ 13 → ⊥
+  unfolding sheet-rules records-rules record-rules value-rules
+  call-never-13 h = absent (sheet-rules s ++ own) 13 (omega arith) (by-count s (λ (l : List Rule). has ((l ++ value-rules s) ++ own) 13 ≡ false) h h)
+
+-- a sheet that was examined and not refused
+pub examined-met : (s : List ℕ) (j : Judged) → Examined s j → j .refused ≡ 0 → (refusal-of s ≡ 0) × (j .described ≡ described-of s)
+examined-met s j e h = (sym (e .refusal) ∙ h, e .silo h)

@@ -5,22 +5,71 @@ ghost use Rattle.records.specs.Format.{layout-rules};
 ghost use Rattle.records.specs.program.Reader.{Located};
 ghost use Rattle.description.specs.program.Described.{described-of, Sized};
 ghost use Rattle.sheet.specs.Refusal.{value-rules};
+ghost use Rattle.sheet.specs.program.Judged.{Examined};
+use description::Bottom;
+use description::Depths;
 use description::Described;
+use description::Eccentricities;
+use description::Wall;
+use janssen::Product;
+use janssen::Section;
 
 pub mod rules; // rules 6 to 12 and 17 on the values
 
-// What a sheet describes, beside the first refusal of rules 6 to 12 and 17, or 0.
+// What a sheet describes, beside its first refusal, or 0.
 pub struct Judged {
     pub refused: u32,
     pub described: Described,
 }
 
-// What a sheet describes that meets rules 1 to 5 and whose records begin at these places.
-pub fn judge(sheet: &[u8], places: &[usize; 7]) -> Judged
+// What a sheet describes that meets rules 1 to 5 and whose records begin at these places, beside the first refusal of rules 6 to 12 and 17.
+fn judge(sheet: &[u8], places: &[usize; 7]) -> Judged
     requires { ⌜ (first-unmet (layout-rules (now sheet)) ≡ 0) × Located (now sheet) (now places) ⌝ }
     ensures { λ r. ⌜ (r .refused ≡ first-unmet (value-rules (now (sheet .entry)))) × (r .described ≡ described-of (now (sheet .entry))) × Sized (r .described) ⌝ }
 {
     let described = description::describe(sheet, places);
     let refused = rules::values_refusal(sheet, described);
     Judged { refused, described }
+}
+
+// Nothing described: what stands beside the refusal of a sheet whose records are not found.
+fn blank() -> Described
+    ensures { λ r. ⌜ Sized r ⌝ }
+{
+    Described {
+        section: Section::Circle(0),
+        product: Product {
+            weight: 0,
+            ratio: 0,
+            friction: 0,
+            factor: 0,
+        },
+        eccentricities: Eccentricities {
+            inlet: 0,
+            outlet: 0,
+        },
+        bottom: Bottom { height: 0, run: 0 },
+        wall: Wall {
+            heights: [0; 24],
+            count: 0,
+            foot: 0,
+        },
+        depths: Depths { start: 0, count: 0 },
+        headroom: 0,
+    }
+}
+
+// Any sheet: its first refusal, or 0 and what it describes.
+pub fn examine(sheet: &[u8]) -> Judged
+    ensures { λ r. ⌜ Examined (now (sheet .entry)) r ⌝ }
+{
+    let mut places = [0usize; 7];
+    let refused = records::layout::find_records(sheet, &mut places);
+    if refused != 0 {
+        return Judged {
+            refused,
+            described: blank(),
+        };
+    }
+    judge(sheet, &places)
 }

@@ -2,11 +2,13 @@
 ghost use mathlib.Core.Path.{_≡_};
 ghost use lib.ListN.{length};
 ghost use Rattle.records.specs.Rules.{first-unmet};
-ghost use Rattle.answers.specs.Length.{answers-length, answers-length-number};
+ghost use Rattle.answers.specs.Length.{answers-length, length-number};
 ghost use Rattle.catalogue.specs.Table.{catalogue-rules, catalogue-after};
 ghost use Rattle.governing.specs.Strakes.{governs, governs-number};
 ghost use Rattle.janssen.specs.program.Pressure.{computed};
 ghost use Rattle.answers.specs.Promise.{Promise};
+ghost use Rattle.page.specs.Page.{page-length};
+ghost use Rattle.page.specs.Promise.{PagePromise};
 
 // 0 with the answer list filled, or the number of the first refusal with the list as it was.
 #[no_mangle]
@@ -19,9 +21,25 @@ pub extern "C" fn silo_loads(sheet: &[u8], answers: &mut [u32]) -> u32
 // 2^32 and the length due of the answer list, or the number of the first refusal.
 #[no_mangle]
 pub extern "C" fn silo_answers_length(sheet: &[u8]) -> u64
-    ensures { λ r. ⌜ r ≡ answers-length-number (answers-length (now (sheet .entry))) ⌝ }
+    ensures { λ r. ⌜ r ≡ length-number (answers-length (now (sheet .entry))) ⌝ }
 {
     answers::length::answers_length(sheet).number()
+}
+
+// 2^32 and the page's length in bytes, or the number of the first refusal.
+#[no_mangle]
+pub extern "C" fn silo_page_length(sheet: &[u8]) -> u64
+    ensures { λ r. ⌜ r ≡ length-number (page-length (now (sheet .entry))) ⌝ }
+{
+    page::page_length(sheet).number()
+}
+
+// 0 with the page at the buffer's start and the bytes past it as they were, or the number of the first refusal with the buffer as it was.
+#[no_mangle]
+pub extern "C" fn silo_page(sheet: &[u8], page: &mut [u8]) -> u32
+    ensures { λ r. ⌜ PagePromise computed (now (sheet .entry)) (now (page .entry)) r (now (page .exit)) ⌝ }
+{
+    page::page(sheet, page)
 }
 
 // 0 with the product record of a catalogue row and wall written, or 15 or 16 with the buffer as it was.

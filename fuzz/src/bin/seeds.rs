@@ -1,8 +1,8 @@
 //! seeds FOLDER: writes inputs for the fuzzer to start from, a file each: accepted sheets, damaged ones, silos of each kind of discharge
-//! factors with C0 written and blank, headrooms, the numbers of a catalogue call, and strake lists.
+//! factors with C0 written and blank, headrooms, the shortest and longest pages, the numbers of a catalogue call, and strake lists.
 
 use reference::inputs::{self, Random};
-use reference::limits::{of_height, under_headroom};
+use reference::limits::{self, of_height, under_headroom};
 use reference::sheet::Silo;
 
 const SILOS: u64 = 24;
@@ -25,6 +25,7 @@ fn main() {
         inputs.extend([silo.sheet(), Silo { factor: 0, ..silo }.sheet()]);
     }
     inputs.extend(HEADROOMS.map(|(height, g)| under_headroom(&[5_000], height, (0, 0), g).sheet()));
+    inputs.extend(limits::pages().iter().map(Silo::sheet));
     for _ in 0..SILOS {
         let silo = inputs::silo(&mut random);
         inputs.extend([silo.sheet(), inputs::damaged(&mut random, &silo)]);

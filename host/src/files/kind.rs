@@ -11,6 +11,8 @@ pub enum Kind {
     Drawing,
     Sheet,
     Table,
+    /// The load page.
+    Page,
     Csv,
     Json,
     /// Table 7.1, and the same as CSV.
@@ -28,6 +30,7 @@ impl Kind {
             Kind::Drawing => "drawing",
             Kind::Sheet => "sheet",
             Kind::Table => "table",
+            Kind::Page => "page",
             Kind::Csv | Kind::CatalogueCsv => "CSV",
             Kind::Json => "JSON",
             Kind::Catalogue => "catalogue",
@@ -40,6 +43,7 @@ impl Kind {
             Kind::Drawing => "a drawing",
             Kind::Sheet => "a sheet",
             Kind::Table => "a table of loads",
+            Kind::Page => "a load page",
             Kind::Csv => "CSV of loads",
             Kind::Json => "JSON of loads",
             Kind::Catalogue => "the catalogue",
@@ -54,6 +58,7 @@ impl Kind {
             Kind::Drawing => &["svg"],
             Kind::Sheet => &["sheet"],
             Kind::Table | Kind::Catalogue => &["txt"],
+            Kind::Page => &["page", "txt"],
             Kind::Csv | Kind::CatalogueCsv => &["csv"],
             Kind::Json => &["json"],
             Kind::Text => &["silo", "txt"],
@@ -86,12 +91,13 @@ impl Kind {
         }
         let text = std::str::from_utf8(bytes).ok()?;
         let text = text.strip_prefix('\u{feff}').unwrap_or(text);
-        let tests: [(Kind, Test); 7] = [
+        let tests: [(Kind, Test); 8] = [
             (Kind::Drawing, |text| text.starts_with("<svg") && text.contains("ENV 1991-4")),
             (Kind::Json, |text| text.starts_with('{') && text.contains("\"p_he\"")),
             (Kind::Csv, |text| first_cell(text) == "silo" && text.contains("p_he")),
             (Kind::CatalogueCsv, |text| first_cell(text) == "row" && text.contains("on steel")),
             (Kind::Catalogue, |text| text.starts_with(CATALOGUE) && ends_with_program(text)),
+            (Kind::Page, |text| text.lines().next() == Some(PAGE)),
             (Kind::Table, ends_with_program),
             (Kind::Text, text::is_silo),
         ];
@@ -101,6 +107,8 @@ impl Kind {
 
 /// How table 7.1 starts.
 const CATALOGUE: &str = "Table 7.1";
+/// The heading of a load page.
+const PAGE: &str = "        z      phf      pwf      pvf       PW      phe      pwe       pp";
 
 /// A sheet that the library reads, or one that it refuses for its length or for that of a list, which the tool writes as well.
 fn is_sheet(bytes: &[u8]) -> bool {

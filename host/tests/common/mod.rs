@@ -43,6 +43,20 @@ const LINES: [(&str, &str); 11] = [
 pub const FLAT: [(&str, &str); 3] =
     [("hopper height", "-"), ("hopper run", "-"), ("floor", "flat")];
 
+/// Changes towards the greatest loads: P_w has eight digits at the foot, as many as a number of a depth can have.
+pub const HEAVIEST: [(&str, &str); 10] = [
+    ("diameter", "48 m"),
+    ("weight", "30 kN/m3"),
+    ("ratio", "1.00"),
+    ("friction", "1.00"),
+    ("factor", "2.00"),
+    ("filling eccentricity", "12 m"),
+    ("hopper height", "25 m"),
+    ("hopper run", "23999 mm"),
+    ("strakes", "24 x 3 m"),
+    ("depths", "strake edges"),
+];
+
 /// The silo with some lines exchanged; a new name goes to the end, and a value of `-` leaves its line out.
 pub fn text_with(changes: &[(&str, &str)]) -> String {
     let mut lines: Vec<(&str, &str)> = LINES.to_vec();

@@ -1,5 +1,5 @@
-//! compare [SHEETS [SEED]]: compares the catalogue and the governing call, then at least that many random sheets, 1,000,000 where nothing
-//! is said, and prints how many of each kind; none of the kinds and refusals may be missing.
+//! compare [SHEETS [SEED]]: compares the catalogue and the governing call and long page buffers, then at least that many random sheets,
+//! 1,000,000 where nothing is said, and prints how many of each kind; none of the kinds and refusals may be missing.
 //!
 //! compare --exactly SHEETS [SEED]: lends memory of exactly its length on the heap and no canaries, for valgrind.
 //!
@@ -18,6 +18,7 @@ const PROGRESS: u64 = 1_000_000;
 fn run(comparison: &mut Comparison, sheets: u64, seed: u64) -> Outcome {
     runs::catalogue(comparison)?;
     runs::governing(comparison, &mut Random::new(seed))?;
+    runs::long_buffers(comparison)?;
     let mut random = Random::new(seed);
     let mut next = PROGRESS;
     while comparison.tally.sheets() < sheets {

@@ -1,5 +1,5 @@
 -- The answer list as the program fills it, part by part.
-use Prim.Native.Nat.{ℕ, zero, suc, max}
+use Prim.Native.Nat.{ℕ, suc, max}
 use mathlib.Core.List.{List, [], _∷_, _++_}
 use lib.ListN.{length, take}
 use Rattle.janssen.specs.program.Pressure.{computed}
@@ -11,6 +11,7 @@ use Rattle.loads.specs.declared.Basis.{Basis}
 use Rattle.loads.specs.Load.{number, bottom-numbers}
 use Rattle.loads.specs.Load.Load.{p-he}
 use Rattle.loads.specs.program.Basis.{basis-for, depth-numbers}
+use Rattle.answers.specs.Each.{each}
 use Rattle.answers.specs.Answers.{silo-of, depth}
 
 -- the silo described, as its loads see it; e is the larger of e_i, e_o
@@ -25,11 +26,6 @@ silo-in d =
       foot = d .wall .foot;
       headroom = d .headroom;
     }
-
--- F of each index from k on, n of them, one after the other
-unfoldable pub each : (ℕ → List ℕ) → ℕ → ℕ → List ℕ
-each F k zero = []
-each F k (suc n) = F k ++ each F (suc k) n
 
 -- the number of the strake k of a wall of these heights, at its lower edge
 abbrev pub at-strake : Silo → List ℕ → ℕ → List ℕ

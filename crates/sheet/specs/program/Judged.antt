@@ -1,13 +1,16 @@
--- The rules of a sheet's values, as the program tries them on the silo described.
+-- The rules of a sheet's values, as the program tries them on the silo described; and what it finds in any sheet.
 use Prim.Native.Nat.{ℕ, _+_, _-_, _*_}
 use mathlib.Core.Bool.{_||_}
 use mathlib.Core.List.{List, [], _∷_}
+use mathlib.Core.Path.{_≡_}
 use lib.Dec.{ltb}
 use lib.ListN.{take}
 use Rattle.janssen.specs.Section.{d-c}
 use Rattle.description.specs.declared.Described.{Described}
+use Rattle.description.specs.program.Described.{described-of, Sized}
 use Rattle.records.specs.Rules.{Rule, _unless_}
-use Rattle.sheet.specs.Refusal.{sides-met, product-met, eccentricities-met, flat, hopper, strakes-met, depths-met}
+use Rattle.sheet.specs.declared.Judged.{Judged}
+use Rattle.sheet.specs.Refusal.{sides-met, product-met, eccentricities-met, flat, hopper, strakes-met, depths-met, refusal-of}
 
 unfoldable pub described-rules : Described → List ℕ → List Rule
 described-rules d depths =
@@ -20,3 +23,9 @@ described-rules d depths =
     ∷ 17 unless ltb (d .headroom) (d .wall .foot)
     ∷ 12 unless ltb (d .wall .foot - d .headroom + d .bottom .height) (10 * d-c (d .section))
     ∷ []
+
+-- the sheet's refusal, and the silo described where there is none; its counts are small in any case
+pub record Examined (s : List ℕ) (j : Judged) : Type 0 where
+  pub refusal : j .refused ≡ refusal-of s
+  pub silo : j .refused ≡ 0 → j .described ≡ described-of s
+  pub sized : Sized (j .described)

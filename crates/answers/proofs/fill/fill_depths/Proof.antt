@@ -11,7 +11,8 @@ use Rattle.records.specs.Format.{payload}
 use Rattle.description.specs.declared.Depths.{Depths}
 use Rattle.description.specs.Silo.{depth-count}
 use Rattle.sheet.proofs.Acceptance.{accepted}
-use Rattle.answers.specs.program.Fill.{each, at-depth, depths-part}
+use Rattle.answers.specs.Each.{each}
+use Rattle.answers.specs.program.Fill.{at-depth, depths-part}
 use Rattle.answers.proofs.Stores.{each-next, each-done}
 use Rattle.answers.proofs.Places.{length-at-depth}
 use Rattle.answers.proofs.Demand.{depth-reached}

@@ -12,7 +12,8 @@ use lib.Seq.{sets, length-take-le}
 use Rattle.description.specs.declared.WallState.{WallState}
 use Rattle.description.specs.program.Wall.{wall-top, wall-lowered, wall-after}
 use Rattle.description.proofs.Walls.{passed-after}
-use Rattle.answers.specs.program.Fill.{each, at-strake, strake-numbers}
+use Rattle.answers.specs.Each.{each}
+use Rattle.answers.specs.program.Fill.{at-strake, strake-numbers}
 use Rattle.answers.proofs.Stores.{each-next, each-done}
 use Rattle.answers.proofs.Edges.{above-foot, next-edge, next-inside, next-state}
 use Rattle.answers.proofs.fill.fill_strakes.Statement.{statement}

@@ -7,7 +7,7 @@ use borrow.Author.Needs.{needs}
 use native.Mathlib.Omega.{arith}
 use lib.ListN.{length, drop, length-set}
 use lib.Seq.{sets}
-use Rattle.answers.proofs.Stores.{sets-start, sets-next, sets-done}
+use Rattle.records.proofs.Stores.{sets-start, sets-next, sets-done}
 use Rattle.answers.proofs.fill.store.Statement.{statement}
 use Rattle.answers.proofs.fill.store.Tie as tie
 

@@ -1,0 +1,57 @@
+-- Every number of an accepted sheet's answer list has at most nine digits, and a load of a depth at most eight: none is above its bound
+-- (`loads/specs/Bound.antt`), and no wall is higher than 72,000 mm.
+-- Assumes nothing.
+use Prim.Native.Nat.{ℕ, suc, _^_, _≤_, _<_}
+use mathlib.Core.Path.{_≡_}
+use mathlib.Core.List.{List}
+use native.Mathlib.Decide.{decLt}
+use native.Mathlib.Omega.{arith}
+use lib.ListN.{length, getD, List·getD-eq-default}
+use Rattle.janssen.specs.program.Pressure.{computed}
+use Rattle.description.specs.Silo.{strake-count, depth-count, edge-of}
+use Rattle.sheet.specs.Refusal.{refusal-of}
+use Rattle.sheet.proofs.Acceptance.{accepted}
+use Rattle.sheet.proofs.Described.{V-most, edge-most}
+use Rattle.loads.specs.Load.{Load}
+use Rattle.loads.specs.Load.{number}
+use Rattle.loads.specs.Load.Load.{listed-depth, p-hf, p-wf, p-vf, P-w, p-he, p-we, p-p}
+use Rattle.loads.specs.Bound.{bound}
+use Rattle.loads.proofs.Bounds.{within-bound, bottom-within}
+use Rattle.answers.specs.Answers.{silo-of, depth, load-in, bottom-in, strake-in, Filled}
+use Rattle.answers.proofs.Places.{every-place}
+use Rattle.answers.proofs.Demand.{silo-fits}
+
+-- down to 72,000 mm a load's bound has eight digits
+bound-small : (l : Load) (depth : ℕ) → depth ≤ 72000 → bound l depth < 10 ^ 8
+bound-small listed-depth depth h = omega arith
+bound-small p-hf depth h = omega arith
+bound-small p-wf depth h = omega arith
+bound-small p-vf depth h = omega arith
+bound-small P-w depth h = omega arith
+bound-small p-he depth h = omega arith
+bound-small p-we depth h = omega arith
+bound-small p-p depth h = omega arith
+
+module _ (s list : List ℕ) (h : refusal-of s ≡ 0) (fill : Filled computed s list) where
+  -- a load at any depth of the wall
+  eight-down : (l : Load) (depth : ℕ) → depth ≤ 72000 → number computed (silo-of s) l depth < 10 ^ 8
+  eight-down l depth g = omega (arith, within-bound (silo-of s) (silo-fits s (accepted s h)) l depth, bound-small l depth g)
+
+  pub eight-digits : (l : Load) (i : ℕ) → i < depth-count s → load-in s list l i < 10 ^ 8
+  eight-digits l i g =
+      omega (arith, fill .at-depths l i g, eight-down l (depth s i) (omega (arith, accepted s h .depths-most i g, V-most s (accepted s h))))
+
+  bottom-digits : (k : ℕ) → k < 10 → bottom-in s list k < 10 ^ 9
+  bottom-digits k g = omega (arith, fill .at-bottom k g, bottom-within (silo-of s) (silo-fits s (accepted s h)) k g)
+
+  strake-digits : (k : ℕ) → k < strake-count s → strake-in s list k < 10 ^ 9
+  strake-digits k g =
+      omega (arith, fill .at-strakes k g, eight-down p-he (edge-of s (suc k)) (omega (arith, edge-most s (suc k), V-most s (accepted s h))))
+
+  pub nine-digits : (i : ℕ) → getD list i 0 < 10 ^ 9
+  nine-digits i = go (decLt i (length list))
+    where
+      go : Dec (i < length list) → getD list i 0 < 10 ^ 9
+      go (yes g) =
+          every-place s (λ n. getD list n 0 < 10 ^ 9) (λ l i u. omega (arith, eight-digits l i u)) bottom-digits strake-digits i (omega (arith, fill .due))
+      go (no g) = omega (arith, List·getD-eq-default list 0 {n = i} (omega arith))

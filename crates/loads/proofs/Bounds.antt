@@ -1,0 +1,128 @@
+-- No load is above its bound: a filling pressure is at most its P, which the largest sizes bound, P_w at most γR·z, and a magnifier at most 2.
+-- Assumes nothing.
+use Prim.Native.Nat.{ℕ, zero, suc, _+_, _-_, _*_, _/_, _^_, _≤_, _<_}
+use mathlib.Core.Path.{_≡_}
+use mathlib.Core.List.{_++_, map}
+use native.Mathlib.Nat.{mul-le-mul, mul-le-mul-right, le-of-suc-le-suc}
+use native.Mathlib.Decide.{decLe}
+use native.Mathlib.Omega.{arith}
+use lib.ListN.{getD, getD-replicate}
+use Rattle.fraction.specs.Fraction.{Fraction}
+use Rattle.fraction.proofs.Up.{up-le}
+use Rattle.janssen.specs.declared.Section.{Section}
+use Rattle.janssen.specs.declared.Product.{Product}
+use Rattle.janssen.specs.Section.{d-c}
+use Rattle.janssen.specs.Filling.{Kind, factors}
+use Rattle.janssen.specs.Filling.Kind.{horizontal, vertical, wall-friction}
+use Rattle.janssen.specs.program.Range.{InRange}
+use Rattle.janssen.specs.program.Pressure.{computed, filling, pressure, limit, decay, step, wall-load, load, loaded-depth, z0-scaled, least-gone}
+use Rattle.janssen.proofs.Geometry.{most}
+use Rattle.janssen.proofs.FillingLaws.{limit-most}
+use Rattle.discharge.specs.Discharge.{magnified-load, patch-load, C-b}
+use Rattle.hopper.specs.Hopper.{B, n3}
+use Rattle.hopper.proofs.Least.{found}
+use Rattle.hopper.proofs.Hopper.{B-range, P-n-range, P-t-range}
+use Rattle.loads.specs.declared.Silo.{Silo}
+use Rattle.loads.specs.Load.{Load}
+use Rattle.loads.specs.Load.{load-depth, number, C-h, C-w, quarters, normal-number, friction-number, bottom-numbers}
+use Rattle.loads.specs.Load.Load.{listed-depth, p-hf, p-wf, p-vf, P-w, p-he, p-we, p-p}
+use Rattle.loads.specs.Bound.{bound, bottom-bound}
+use Rattle.loads.specs.program.Basis.{Fits}
+use Rattle.loads.proofs.LoadLaws.{bottom-flat, bottom-hopper, at-quarter, C-h-moderate, C-w-moderate, dc-positive}
+
+-- ---- filling
+module _ (s : Section) (p : Product) (i : InRange s p) where
+  filling-most : (k : Kind) (z : ℕ) → filling k s p z ≤ most k
+  unfolding filling pressure
+  filling-most k z =
+      let E : ℕ = decay (step (factors k) s p) z in
+      up-le (limit k s p * (2 ^ 40 - E)) (2 ^ 51) (most k) (omega arith)
+      (omega (arith, mul-le-mul {m₁ = 2 ^ 40 - E} {m₂ = 2 ^ 40} (limit-most k s p i) (omega arith)))
+
+  wall-load-most : (z : ℕ) → wall-load s p z ≤ 375 * z
+  unfolding wall-load load loaded-depth
+  wall-load-most z =
+      let E : ℕ = decay (step (factors wall-friction) s p) z in
+      let G : ℕ = z * 2 ^ 11 - z0-scaled s p * least-gone E / 2 ^ 40 in
+      up-le (limit wall-friction s p * G) (2 ^ 22 * 1000) (375 * z) (omega arith)
+      (omega (arith, mul-le-mul {m₁ = G} {m₂ = z * 2 ^ 11} (limit-most wall-friction s p i) (omega arith)))
+
+-- ---- discharge
+magnified-most : (C : Fraction) → 0 < C .bottom → C .top ≤ 2 * C .bottom → (p : ℕ) → magnified-load C p ≤ 2 * p
+unfolding magnified-load
+magnified-most C pos h p = up-le (C .top * p) (C .bottom * 1) (2 * p) (omega arith) (omega (arith, mul-le-mul-right p h))
+
+patch-most : (e d h : ℕ) → 0 < d → 4 * e ≤ d → patch-load e d h ≤ h
+unfolding patch-load
+patch-most e d h hd he =
+    up-le (2 * (1 * d + 4 * e * 1) * h) (10 * (1 * d) * 1) h (omega arith) (omega (arith, mul-le-mul-right h he))
+
+-- ---- the hopper
+n3-most : (μ b : ℕ) → n3 μ b ≤ 4 * b
+unfolding n3
+n3-most μ b = found _ (4 * b) .within
+
+module _ (c : Silo) (fits : Fits c) where
+  abbrev filled : Kind → ℕ → ℕ
+  filled k depth = filling k (c .section) (c .product) (load-depth c depth)
+
+  p-he-most : (depth : ℕ) → number computed c p-he depth ≤ 8333334
+  p-he-most depth =
+      omega (
+        arith,
+        magnified-most (C-h c) (C-h-moderate c fits .proper) (C-h-moderate c fits .most) (filled horizontal depth),
+        filling-most (c .section) (c .product) (fits .range) horizontal (load-depth c depth),
+      )
+
+  -- every load of a depth
+  pub within-bound : (l : Load) (depth : ℕ) → number computed c l depth ≤ bound l depth
+  unfolding load-depth
+  within-bound listed-depth depth = omega arith
+  within-bound p-hf depth = filling-most (c .section) (c .product) (fits .range) horizontal (load-depth c depth)
+  within-bound p-wf depth = filling-most (c .section) (c .product) (fits .range) wall-friction (load-depth c depth)
+  within-bound p-vf depth = filling-most (c .section) (c .product) (fits .range) vertical (load-depth c depth)
+  within-bound P-w depth = omega (arith, wall-load-most (c .section) (c .product) (fits .range) (load-depth c depth))
+  within-bound p-he depth = p-he-most depth
+  within-bound p-we depth =
+      omega (
+        arith,
+        magnified-most (C-w c) (C-w-moderate c fits .proper) (C-w-moderate c fits .most) (filled wall-friction depth),
+        filling-most (c .section) (c .product) (fits .range) wall-friction (load-depth c depth),
+      )
+  within-bound p-p depth =
+      omega (arith, patch-most (c .eccentricity) (d-c (c .section)) (number computed c p-he depth) (dc-positive c fits) (fits .eccentricity-most), p-he-most depth)
+
+  vertical-small : number computed c p-vf (c .foot) < 2 ^ 25
+  vertical-small = omega (arith, within-bound p-vf (c .foot))
+
+  normal-most : (k : ℕ) → 0 < c .run → k ≤ 4 → normal-number computed c k ≤ 2 ^ 26
+  normal-most k hr hk =
+      let μ = c .product .friction in
+      let b = B (c .section) (c .product) (c .height) (c .run) in
+      P-n-range (c .height) (c .run) k (n3 μ b) (number computed c p-vf (c .foot)) hr hk
+      (omega (arith, n3-most μ b, B-range (c .section) (c .product) (c .height) (c .run) (fits .range) hr)) vertical-small
+
+  friction-most : (k : ℕ) → 0 < c .run → k ≤ 4 → friction-number computed c k ≤ 2 ^ 27
+  friction-most k hr hk = P-t-range (c .product .friction) (normal-number computed c k) (fits .range .μ-in .most) (normal-most k hr hk)
+
+  flat-most : c .run ≡ 0 → (k : ℕ) → k < 10 → getD (bottom-numbers computed c) k 0 ≤ bottom-bound
+  flat-most e zero h =
+      rw (bottom-flat computed c e) (omega (arith, magnified-most C-b (omega arith) (omega arith) (number computed c p-vf (c .foot)), vertical-small))
+  flat-most e (suc k) h = rw (bottom-flat computed c e) (omega (arith, getD-replicate {A = ℕ} 9 k 0 0 (le-of-suc-le-suc h)))
+
+  hopper-most : 0 < c .run → (k : ℕ) → k < 10 → getD (bottom-numbers computed c) k 0 ≤ bottom-bound
+  hopper-most hr k h = rw (bottom-hopper computed c hr) (go (decLe k 4))
+    where
+      go : Dec (k ≤ 4) → getD (map (normal-number computed c) quarters ++ map (friction-number computed c) quarters) k 0 ≤ bottom-bound
+      go (yes g) = rw (at-quarter (normal-number computed c) (friction-number computed c) k g .0) (omega (arith, normal-most k hr g))
+      go (no g) =
+          let e : k ≡ 5 + (k - 5) = omega arith in
+          rw (e, at-quarter (normal-number computed c) (friction-number computed c) (k - 5) (omega arith) .1) (friction-most (k - 5) hr (omega arith))
+
+  -- every number of the bottom
+  pub bottom-within : (k : ℕ) → k < 10 → getD (bottom-numbers computed c) k 0 ≤ bottom-bound
+  bottom-within k h = go (decLe (c .run) 0)
+    where
+      go : Dec (c .run ≤ 0) → getD (bottom-numbers computed c) k 0 ≤ bottom-bound
+      go (yes g) = flat-most (omega arith) k h
+      go (no g) = hopper-most (omega arith) k h

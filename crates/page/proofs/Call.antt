@@ -1,0 +1,82 @@
+-- What the page call answers and leaves, in its three cases: refused for the sheet, refused for the buffer's length, written.
+-- Assumes nothing.
+use Prim.Native.Nat.{ℕ, _+_, _≤_, _<_}
+use mathlib.Core.Path.{_≡_, refl, ap, sym, _∙_}
+use mathlib.Core.List.{List, [], _∷_, _++_}
+use native.Mathlib.Omega.{arith}
+use borrow.Author.Tests.{le-leb, lt-leb}
+use lib.Dec.{leb}
+use lib.ListN.{length, drop}
+use lib.Seq.{sets, sets-eq}
+use Rattle.records.specs.Rules.{_unless_, first-unmet}
+use Rattle.janssen.specs.program.Pressure.{computed}
+use Rattle.description.specs.Silo.{depth-count}
+use Rattle.description.specs.declared.Described.{Described}
+use Rattle.description.specs.program.Described.{wall-of, described-of}
+use Rattle.sheet.specs.Refusal.{refusal-of}
+use Rattle.sheet.proofs.Acceptance.{sheet-first, sheet-passed, call-never-13}
+use Rattle.answers.specs.program.Fill.{answers}
+use Rattle.answers.proofs.Places.{answers-filled}
+use Rattle.answers.proofs.Demand.{claim}
+use Rattle.page.specs.Page.{page, page-size, page-due, page-rules}
+use Rattle.page.specs.Promise.{PagePromise}
+use Rattle.page.specs.program.Text.{page-text}
+use Rattle.page.proofs.Lines.{page-text-length}
+use Rattle.page.proofs.Room.{answers-few, page-room}
+use Rattle.page.proofs.Named.{page-named}
+
+-- the page's length by the counts of the silo described
+pub described-size : (s : List ℕ) (d : Described) (n : ℕ) → d ≡ described-of s → n ≡ page-size (d .depths .count) (d .wall .count) → n ≡ page-due s
+unfolding page-due wall-of
+described-size s d n e f = f ∙ ap (λ (d : Described). page-size (d .depths .count) (d .wall .count)) e
+
+-- what the page call answers for a buffer of n bytes: the sheet's refusal, or 18; never 13
+module _ (s : List ℕ) (n : ℕ) where
+  pub page-never-13 : first-unmet (page-rules s n) ≡ 13 → ⊥
+  unfolding page-rules
+  page-never-13 = call-never-13 s _ refl
+
+  pub refused-page : (refusal-of s ≡ 0 → ⊥) → first-unmet (page-rules s n) ≡ refusal-of s
+  unfolding page-rules
+  refused-page h = sheet-first s _ h
+
+  pub last-of-page : refusal-of s ≡ 0 → first-unmet (page-rules s n) ≡ first-unmet (18 unless leb (page-due s) n ∷ [])
+  unfolding page-rules
+  last-of-page h = sheet-passed s _ h
+
+-- an accepted sheet's page is what the program writes, of the length told
+module _ (s : List ℕ) (h : refusal-of s ≡ 0) where
+  pub page-is : page-text (answers s) (depth-count s) ≡ page computed s
+  page-is = page-named computed s (answers s) (answers-filled s)
+
+  pub page-length-is : length (page computed s) ≡ page-due s
+  page-length-is = sym (ap length page-is) ∙ page-text-length (answers s) (answers-few s h) (depth-count s) ∙ page-room s h
+
+module _ (s lent : List ℕ) where
+  -- any refusal leaves the buffer as it was
+  refused-with : (r : ℕ) → r ≡ first-unmet (page-rules s (length lent)) → (r ≡ 0 → ⊥) → PagePromise computed s lent r lent
+  refused-with r e n =
+      record { answer = e; unchanged = λ _. refl; written = λ o. absurd (n o); due = λ o. absurd (n o); demand = λ o. absurd (n o) }
+
+  pub refused : (r : ℕ) → r ≡ refusal-of s → (r ≡ 0 → ⊥) → PagePromise computed s lent r lent
+  refused r e n = refused-with r (e ∙ sym (refused-page s (length lent) (λ o. n (e ∙ o)))) n
+
+  pub short : refusal-of s ≡ 0 → length lent < page-due s → PagePromise computed s lent 18 lent
+  unfolding first-unmet
+  short h n = refused-with 18 (sym (last-of-page s (length lent) h ∙ simp (lt-leb (page-due s) (length lent) n))) (λ o. omega arith)
+
+  pub written : (left : List ℕ) → refusal-of s ≡ 0 → page-due s ≤ length lent → left ≡ sets lent 0 (page-text (answers s) (depth-count s))
+      → PagePromise computed s lent 0 left
+  unfolding first-unmet
+  written left h n e =
+      let long : 0 + length (page computed s) ≡ page-due s = omega (arith, page-length-is s h) in
+      record {
+        answer = sym (last-of-page s (length lent) h ∙ simp (le-leb (page-due s) (length lent) n));
+        unchanged = λ o. absurd (o refl);
+        written =
+            λ _. e ∙ ap (sets lent 0) (page-is s h)
+            ∙ sets-eq (page computed s) lent 0 (omega (arith, long, n))
+            ∙ ap (λ (k : ℕ). page computed s ++ drop k lent) long;
+        due = λ _. page-length-is s h;
+        demand = λ _. (answers s, answers-filled s, claim s (answers s) h (answers-filled s));
+      }

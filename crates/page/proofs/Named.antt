@@ -1,0 +1,64 @@
+-- The page of an answer list that has each number in its place is the page of the sheet, load by load.
+-- Assumes nothing.
+use Prim.Native.Nat.{ℕ, suc, _+_, _-_, _*_, _<_}
+use mathlib.Core.Path.{_≡_, ap, ap₂, _∙_}
+use mathlib.Core.List.{List, _++_, map, append-assoc}
+use native.Mathlib.Omega.{arith}
+use lib.ListN.{length, getD}
+use Rattle.text.specs.Text.{decimal}
+use Rattle.text.specs.program.Mark.{number-field}
+use Rattle.janssen.specs.Numbers.{FillingNumbers}
+use Rattle.description.specs.Silo.{strake-count, depth-count, edge-of}
+use Rattle.loads.specs.Load.{Load}
+use Rattle.loads.specs.Load.{number, bottom-numbers}
+use Rattle.loads.specs.Load.Load.{p-he}
+use Rattle.answers.specs.Each.{each}
+use Rattle.answers.specs.Length.{length-due}
+use Rattle.answers.specs.Answers.{silo-of, depth, load-in, Filled}
+use Rattle.answers.proofs.Stores.{each-same, each-split}
+use Rattle.page.specs.Page.{columns, line, depth-line, number-line, heading, page}
+use Rattle.page.specs.program.Text.{row-text, number-text, at-rest, rows, rest, page-text}
+
+-- a row is the line of its eight numbers, by name
+row-line : (s list : List ℕ) (i : ℕ) → row-text list i ≡ line (map (λ (l : Load). decimal (load-in s list l i)) columns)
+unfolding row-text each number-field
+row-line s list i = simp append-assoc
+
+module _ (f : FillingNumbers) (s list : List ℕ) (fill : Filled f s list) where
+  row-named : (i : ℕ) → i < depth-count s → row-text list i ≡ depth-line f (silo-of s) (depth s i)
+  row-named i h =
+      row-line s list i ∙ ap (λ (n : Load → ℕ). line (map (λ (l : Load). decimal (n l)) columns)) (λ j l. fill .at-depths l i h j)
+
+  rows-named : rows list (depth-count s) ≡ each (λ (i : ℕ). depth-line f (silo-of s) (depth s i)) 0 (depth-count s)
+  rows-named =
+      each-same (row-text list) (λ (i : ℕ). depth-line f (silo-of s) (depth s i)) 0 (depth-count s) (λ i a h. row-named i (omega arith))
+
+  -- a number of bottom or strakes
+  text-line : {n m : ℕ} → n ≡ m → number-text n ≡ number-line m
+  unfolding number-text number-field
+  text-line e = ap number-line e
+
+  bottom-named : each (at-rest list (8 * depth-count s)) 0 10 ≡ each (λ (k : ℕ). number-line (getD (bottom-numbers f (silo-of s)) k 0)) 0 10
+  bottom-named = each-same _ _ 0 10 (λ k a h. text-line (fill .at-bottom k (omega arith)))
+
+  strakes-named : each (λ (k : ℕ). at-rest list (8 * depth-count s) (10 + k)) 0 (strake-count s)
+      ≡ each (λ (k : ℕ). number-line (number f (silo-of s) p-he (edge-of s (suc k)))) 0 (strake-count s)
+  strakes-named =
+      each-same _ _ 0 (strake-count s)
+      (λ k a h.
+      let at : 8 * depth-count s + (10 + k) ≡ 8 * depth-count s + 10 + k = omega arith in
+      text-line (ap (λ (n : ℕ). getD list n 0) at ∙ fill .at-strakes k (omega arith)))
+
+  rest-named : rest list (8 * depth-count s)
+      ≡ each (λ (k : ℕ). number-line (getD (bottom-numbers f (silo-of s)) k 0)) 0 10
+      ++ each (λ (k : ℕ). number-line (number f (silo-of s) p-he (edge-of s (suc k)))) 0 (strake-count s)
+  unfolding length-due
+  rest-named =
+      let n : length list - 8 * depth-count s ≡ 10 + strake-count s = omega (arith, fill .due) in
+      ap (each (at-rest list (8 * depth-count s)) 0) n
+      ∙ each-split (at-rest list (8 * depth-count s)) 10 (strake-count s)
+      ∙ ap₂ _++_ bottom-named strakes-named
+
+  pub page-named : page-text list (depth-count s) ≡ page f s
+  unfolding page-text page
+  page-named = ap (λ (l : List ℕ). heading ++ l) (ap₂ _++_ rows-named rest-named)

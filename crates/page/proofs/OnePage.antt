@@ -1,0 +1,88 @@
+-- Sheets that describe one silo have one page (`one-page`): a sheet of six records beside the same with a headroom of 0 (`level-page`, document 02, C-13),
+-- and one with a blank factor beside the same with 155 (`page-acts-as-155`, C-14); their length calls answer the same.
+-- Assumes nothing.
+use Prim.Native.Nat.{ℕ, _+_, _≤_}
+use mathlib.Core.Path.{_≡_, refl, ap, sym, _∙_}
+use mathlib.Core.List.{List, [], _∷_, _++_}
+use native.Mathlib.Decide.{decLe}
+use native.Mathlib.Omega.{arith}
+use lib.Dec.{leb}
+use lib.ListN.{length}
+use Rattle.records.specs.Rules.{_unless_, first-unmet}
+use Rattle.janssen.specs.program.Pressure.{computed}
+use Rattle.records.specs.Format.{place}
+use Rattle.sheet.specs.Refusal.{refusal-of}
+use Rattle.sheet.proofs.Acceptance.{sheet-met}
+use Rattle.sheet.proofs.Parts.{SameParts}
+use Rattle.answers.specs.Factor.{with-factor, Blank}
+use Rattle.answers.specs.program.Fill.{answers}
+use Rattle.answers.proofs.LengthLaws.{told-same}
+use Rattle.answers.proofs.Places.{answers-filled}
+use Rattle.answers.proofs.OneSilo.{OneSilo, filled-same}
+use Rattle.answers.proofs.Headroom.{level, level-refusal, level-silo}
+use Rattle.answers.proofs.Factor.{same-refusal, same-silo}
+use Rattle.page.specs.Page.{page, page-due, page-length, page-rules}
+use Rattle.page.specs.Promise.{PagePromise}
+use Rattle.page.specs.program.Text.{page-text}
+use Rattle.page.proofs.Named.{page-named}
+use Rattle.page.proofs.Call.{refused-page, last-of-page}
+
+module _ (s s' : List ℕ) where
+  due-same : SameParts s s' → page-due s ≡ page-due s'
+  unfolding page-due
+  due-same p = rw (p .depth-counts, p .strake-counts) refl
+
+  -- the list of the other is also that of s
+  page-same : OneSilo s s' → page computed s ≡ page computed s'
+  page-same o =
+      sym (page-named computed s (answers s') (filled-same s s' o computed (answers s') (answers-filled s')))
+      ∙ ap (page-text (answers s')) (o .parts .depth-counts)
+      ∙ page-named computed s' (answers s') (answers-filled s')
+
+  module _ (refusals : refusal-of s ≡ refusal-of s') (one : refusal-of s ≡ 0 → OneSilo s s') where
+    pub one-page-length : page-length s ≡ page-length s'
+    one-page-length = told-same refusals (λ h. due-same (one h .parts))
+
+    answer-by : (n : ℕ) → Dec (refusal-of s ≤ 0) → first-unmet (page-rules s n) ≡ first-unmet (page-rules s' n)
+    answer-by n (yes z) =
+        let h : refusal-of s ≡ 0 = omega (arith, z) in
+        last-of-page s n h ∙ ap (λ (m : ℕ). first-unmet (18 unless leb m n ∷ [])) (due-same (one h .parts)) ∙ sym (last-of-page s' n (sym refusals ∙ h))
+    answer-by n (no z) =
+        let h : refusal-of s ≡ 0 → ⊥ = λ o. z (omega (arith, o)) in
+        refused-page s n h ∙ refusals ∙ sym (refused-page s' n (λ o. h (refusals ∙ o)))
+
+    module _ {lent left left' : List ℕ} {r r' : ℕ} (a : PagePromise computed s lent r left) (b : PagePromise computed s' lent r' left') where
+      answers-same : r ≡ r'
+      answers-same = a .answer ∙ answer-by (length lent) (decLe (refusal-of s) 0) ∙ sym (b .answer)
+
+      accepted-by : r ≡ 0 → refusal-of s ≡ 0
+      unfolding page-rules
+      accepted-by h = sheet-met s _ (sym (a .answer) ∙ h)
+
+      left-by : Dec (r ≤ 0) → left ≡ left'
+      left-by (yes z) =
+          let h : r ≡ 0 = omega (arith, z) in
+          let o : OneSilo s s' = one (accepted-by h) in
+          a .written h ∙ rw (page-same o, due-same (o .parts)) refl ∙ sym (b .written (sym answers-same ∙ h))
+      left-by (no n) = a .unchanged (λ z. n (omega (arith, z))) ∙ sym (b .unchanged (λ z. n (omega (arith, z, answers-same))))
+
+      pub one-page : (r ≡ r') × (left ≡ left')
+      one-page = (answers-same, left-by (decLe r 0))
+
+-- a sheet of six records, and a headroom of 0 behind it
+module _ (s : List ℕ) (six : place s 6 ≡ length s) (short : length s + 8 ≤ 1024) where
+  pub level-page-length : page-length s ≡ page-length (s ++ level)
+  level-page-length = one-page-length s (s ++ level) (level-refusal s six short) (level-silo s six short)
+
+  pub level-page : (lent left left' : List ℕ) (r r' : ℕ) → PagePromise computed s lent r left → PagePromise computed (s ++ level) lent r' left'
+      → (r ≡ r') × (left ≡ left')
+  level-page lent left left' r r' a b = one-page s (s ++ level) (level-refusal s six short) (level-silo s six short) a b
+
+-- a blank factor, and 155 written in
+module _ (s : List ℕ) (b : Blank s) where
+  pub blank-page-length : page-length s ≡ page-length (with-factor 155 s)
+  blank-page-length = one-page-length s (with-factor 155 s) (same-refusal s b) (same-silo s b)
+
+  pub page-acts-as-155 : (lent left left' : List ℕ) (r r' : ℕ) → PagePromise computed s lent r left → PagePromise computed (with-factor 155 s) lent r' left'
+      → (r ≡ r') × (left ≡ left')
+  page-acts-as-155 lent left left' r r' p q = one-page s (with-factor 155 s) (same-refusal s b) (same-silo s b) p q

@@ -1,0 +1,141 @@
+-- Reading the fields of the page back gives the numbers of the answer list (`reads-back`), and a space stands before each of a depth's eight
+-- numbers (`spaced`).
+-- A character of the page is found by its line, its column and its place there; the nine of a field make up the number's field, since it has at most
+-- nine digits.
+-- Assumes nothing.
+use Prim.Native.Nat.{ℕ, zero, suc, _+_, _-_, _*_, _^_, _≤_, _<_}
+use mathlib.Core.Path.{_≡_, refl, ap, sym, _∙_}
+use mathlib.Core.List.{List, _++_}
+use native.Mathlib.Nat.{add-zero}
+use native.Mathlib.Omega.{arith}
+use lib.ListN.{length, getD, take, drop, length-append, length-drop, List·getD-append}
+use lib.Seq.{getD-append-add, getD-take, getD-drop, length-take-le, ext-getD}
+use Rattle.text.specs.Text.{space}
+use Rattle.text.specs.Reading.{reading}
+use Rattle.text.specs.program.Mark.{number-field}
+use Rattle.text.proofs.Fields.{field-length, field-spaced, field-read}
+use Rattle.janssen.specs.program.Pressure.{computed}
+use Rattle.description.specs.Silo.{strake-count, depth-count}
+use Rattle.sheet.specs.Refusal.{refusal-of}
+use Rattle.loads.specs.Load.{Load}
+use Rattle.loads.specs.Load.Load.{listed-depth}
+use Rattle.answers.specs.Each.{each}
+use Rattle.answers.specs.Length.{length-due}
+use Rattle.answers.specs.Place.{rank}
+use Rattle.answers.specs.Answers.{load-in, Filled}
+use Rattle.answers.proofs.Stores.{part-at}
+use Rattle.answers.proofs.Digits.{eight-digits, nine-digits}
+use Rattle.page.specs.Page.{columns, heading, page}
+use Rattle.page.specs.Reading.{column-field, rest-field, number-at, ReadsBack}
+use Rattle.page.specs.program.Text.{at-column, row-text, number-text, at-rest, rows, page-text}
+use Rattle.page.proofs.Lines.{Few, heading-length, column-length, columns-length, row-length, rows-length, rest-line, page-text-length}
+use Rattle.page.proofs.Named.{page-named}
+
+-- ---- the characters of a field
+module _ (list : List ℕ) (few : Few list) (n : ℕ) where
+  -- of column j of the depth i
+  row-character : (i j t : ℕ) → i < n → j < 8 → t < 9
+      → getD (page-text list n) (73 * (1 + i) + 9 * j + t) 0 ≡ getD (number-field (getD list (8 * i + j) 0)) t 0
+  unfolding page-text row-text
+  row-character i j t hi hj ht =
+      let at : 73 * (1 + i) + 9 * j + t ≡ length heading + (73 * i + (9 * j + t)) = omega (arith, heading-length) in
+      ap (λ (k : ℕ). getD (page-text list n) k 0) at
+      ∙ getD-append-add heading _ (73 * i + (9 * j + t)) 0
+      ∙ List·getD-append (rows list n) _ 0 (73 * i + (9 * j + t)) (omega (arith, rows-length list few n))
+      ∙ part-at (row-text list) 73 (row-length list few) n (73 * i + (9 * j + t)) i (9 * j + t) refl hi (omega arith)
+      ∙ List·getD-append (each (at-column list i) 0 8) _ 0 (9 * j + t) (omega (arith, columns-length list few i))
+      ∙ part-at (at-column list i) 9 (column-length list few i) 8 (9 * j + t) j t refl hj ht
+
+  -- of number k behind the depths
+  rest-character : (k t : ℕ) → k < length list - 8 * n → t < 9
+      → getD (page-text list n) (rest-field n k + t) 0 ≡ getD (number-field (getD list (8 * n + k) 0)) t 0
+  unfolding page-text number-text
+  rest-character k t hk ht =
+      let at : rest-field n k + t ≡ length heading + (length (rows list n) + (10 * k + t)) = omega (arith, heading-length, rows-length list few n) in
+      ap (λ (m : ℕ). getD (page-text list n) m 0) at
+      ∙ getD-append-add heading _ (length (rows list n) + (10 * k + t)) 0
+      ∙ getD-append-add (rows list n) _ (10 * k + t) 0
+      ∙ part-at (at-rest list (8 * n)) 10 (rest-line list few (8 * n)) (length list - 8 * n) (10 * k + t) k t refl hk (omega arith)
+      ∙ List·getD-append (number-field (getD list (8 * n + k) 0)) _ 0 t (omega (arith, field-length (getD list (8 * n + k) 0) (few (8 * n + k))))
+
+-- nine characters that are those of a number's field
+field-back : (text : List ℕ) (at m : ℕ) → m < 10 ^ 9 → at + 9 ≤ length text → ((t : ℕ) → t < 9 → getD text (at + t) 0 ≡ getD (number-field m) t 0)
+    → number-at text at ≡ m
+field-back text at m h room same =
+    let nine : length (take 9 (drop at text)) ≡ 9 = length-take-le 9 (drop at text) (omega (arith, length-drop at text)) in
+    ap reading
+    (ext-getD 0 (take 9 (drop at text)) (number-field m) (nine ∙ sym (field-length m h))
+    (λ t g. getD-take 9 (drop at text) t 0 (omega (arith, nine)) ∙ getD-drop at text t 0 ∙ same t (omega (arith, nine))))
+    ∙ field-read m h
+
+-- the columns of the page are the loads in the order of a depth's eight
+ranked : (j : ℕ) → j < 8 → rank (getD columns j listed-depth) ≡ j
+ranked zero h = refl
+ranked (suc zero) h = refl
+ranked (suc (suc zero)) h = refl
+ranked (suc (suc (suc zero))) h = refl
+ranked (suc (suc (suc (suc zero)))) h = refl
+ranked (suc (suc (suc (suc (suc zero))))) h = refl
+ranked (suc (suc (suc (suc (suc (suc zero)))))) h = refl
+ranked (suc (suc (suc (suc (suc (suc (suc zero))))))) h = refl
+ranked (suc (suc (suc (suc (suc (suc (suc (suc j)))))))) h = absurd (omega arith)
+
+module _ (s list behind : List ℕ) (h : refusal-of s ≡ 0) (fill : Filled computed s list) where
+  abbrev n : ℕ
+  n = depth-count s
+
+  few : Few list
+  few = nine-digits s list h fill
+
+  rest-count : length list - 8 * n ≡ 10 + strake-count s
+  unfolding length-due
+  rest-count = omega (arith, fill .due)
+
+  text-length : length (page-text list n) ≡ 73 * (1 + n) + 10 * (10 + strake-count s)
+  text-length = page-text-length list few n ∙ ap (λ (m : ℕ). 73 * (1 + n) + 10 * m) rest-count
+
+  -- the page, and what stands behind it in the buffer
+  inside : (at : ℕ) → at < length (page-text list n) → getD (page computed s ++ behind) at 0 ≡ getD (page-text list n) at 0
+  inside at g =
+      ap (λ (l : List ℕ). getD (l ++ behind) at 0) (sym (page-named computed s list fill)) ∙ List·getD-append (page-text list n) behind 0 at g
+
+  longer : length (page-text list n) ≤ length (page computed s ++ behind)
+  longer = omega (arith, length-append (page computed s) behind, ap length (page-named computed s list fill))
+
+  -- the load of column j
+  abbrev load-of : ℕ → Load
+  load-of j = getD columns j listed-depth
+
+  load-character : (i j t : ℕ) → i < n → j < 8 → t < 9
+      → getD (page computed s ++ behind) (column-field i j + t) 0 ≡ getD (number-field (load-in s list (load-of j) i)) t 0
+  load-character i j t hi hj ht =
+      inside (column-field i j + t) (omega (arith, text-length))
+      ∙ row-character list few n i j t hi hj ht
+      ∙ ap (λ (r : ℕ). getD (number-field (getD list (8 * i + r) 0)) t 0) (sym (ranked j hj))
+
+  pub spaced : (i j : ℕ) → i < n → j < 8 → getD (page computed s ++ behind) (column-field i j) 0 ≡ space
+  spaced i j hi hj =
+      ap (λ (at : ℕ). getD (page computed s ++ behind) at 0) (sym (add-zero (column-field i j)))
+      ∙ load-character i j 0 hi hj (omega arith)
+      ∙ ap (λ (t : List ℕ). getD t 0 0) (field-spaced (load-in s list (load-of j) i) (eight-digits s list h fill (load-of j) i hi))
+
+  load-back : (i j : ℕ) → i < n → j < 8 → number-at (page computed s ++ behind) (column-field i j) ≡ load-in s list (load-of j) i
+  load-back i j hi hj =
+      field-back (page computed s ++ behind) (column-field i j) (load-in s list (load-of j) i)
+      (omega (arith, eight-digits s list h fill (load-of j) i hi)) (omega (arith, longer, text-length)) (λ t ht. load-character i j t hi hj ht)
+
+  rest-back : (k : ℕ) → k < 10 + strake-count s → number-at (page computed s ++ behind) (rest-field n k) ≡ getD list (8 * n + k) 0
+  rest-back k hk =
+      field-back (page computed s ++ behind) (rest-field n k) (getD list (8 * n + k) 0) (few (8 * n + k)) (omega (arith, longer, text-length))
+      (λ t ht. inside (rest-field n k + t) (omega (arith, text-length)) ∙ rest-character list few n k t (omega (arith, rest-count)) ht)
+
+  pub reads-back : ReadsBack s (page computed s ++ behind) list
+  reads-back =
+      record {
+        depths-back = load-back;
+        bottom-back = λ k g. rest-back k (omega arith);
+        strakes-back =
+            λ k g.
+            let at : 8 * n + (10 + k) ≡ 8 * n + 10 + k = omega arith in
+            rest-back (10 + k) (omega arith) ∙ ap (λ (m : ℕ). getD list m 0) at;
+      }

@@ -1,0 +1,4 @@
+pub mod Page
+pub mod Promise
+pub mod Reading
+pub mod program

@@ -1,0 +1,123 @@
+//! The comparison of the two page calls.
+
+use super::Comparison;
+use crate::calls::{expect, Difference, Outcome, UNTOUCHED_BYTE};
+use crate::page;
+use crate::sheet::{records, Silo};
+use std::ops::Range;
+
+/// Buffers that a page is lent with, by their length beside the page's.
+type Buffer = (&'static str, fn(usize) -> usize);
+pub const BUFFERS: [Buffer; 5] = [
+    ("empty", |_| 0),
+    ("a byte short", |due| due - 1),
+    ("exact", |due| due),
+    ("a byte longer", |due| due + 1),
+    ("twice as long", |due| 2 * due),
+];
+pub const EACH: Range<usize> = 0..BUFFERS.len();
+pub const EXACT: Range<usize> = 2..3;
+
+/// The page of one depth and one strake.
+const SHORTEST: usize = 73 * 2 + 10 * 11;
+
+/// Digits of the longest number that a field has room for.
+pub const DIGITS: usize = 9;
+
+fn digits(number: u64) -> usize {
+    number.checked_ilog10().map_or(1, |log| log as usize + 1)
+}
+
+/// An accepted silo with the library's list, or a refusal.
+type Listed<'a> = Result<(&'a Silo, &'a [u64]), u64>;
+
+fn silo(listed: Listed<'_>) -> Result<&Silo, u64> {
+    listed.map(|(silo, _)| silo)
+}
+
+/// The first line of a page that is not as due.
+fn unlike(page: &[u8], text: &str) -> String {
+    let page = String::from_utf8_lossy(page);
+    let mut lines = page.split('\n').zip(text.split('\n')).enumerate();
+    match lines.find(|(_, (line, due))| line != due) {
+        Some((i, (line, due))) => format!("line {i} is {line:?}, {due:?} due"),
+        None => "its lines are as due".into(),
+    }
+}
+
+impl Comparison<'_> {
+    /// The length call, and the page call with each of these buffers. A refused sheet is lent them round the page that its records ask for,
+    /// or round the shortest where they cannot be read.
+    pub(super) fn pages(&mut self, bytes: &[u8], listed: Listed, buffers: Range<usize>) -> Outcome {
+        if !self.with_pages {
+            return Ok(());
+        }
+        let (told, answer) = (self.calls.page_length(bytes)?, page::length_answer(silo(listed)));
+        expect(told == answer, bytes, || format!("page_length {told}, {answer} due"))?;
+        let due = records(bytes).map_or(SHORTEST, |silo| page::length(&silo));
+        let text = listed.map(|(silo, list)| page::text(silo, list)).unwrap_or_default();
+        let fits = listed.is_err() || text.len() == due;
+        expect(fits, bytes, || "a number of the list has no room in a field".into())?;
+        for buffer in buffers {
+            let answer = self.page(bytes, listed, &text, BUFFERS[buffer].1(due))?;
+            self.tally.pages[listed.err().unwrap_or(0) as usize][buffer] += 1;
+            self.tally.refused[18] += u64::from(answer == 18);
+        }
+        let numbers = listed.map_or(&[][..], |(_, list)| list);
+        numbers.iter().for_each(|number| self.tally.digits[digits(*number)] += 1);
+        Ok(())
+    }
+
+    /// The page call with a buffer of that length; tells its answer. The page that it writes, read by its places alone, has the numbers of
+    /// the list, and is the text due; all else of the buffer is as it was.
+    fn page(
+        &self,
+        bytes: &[u8],
+        listed: Listed,
+        text: &str,
+        length: usize,
+    ) -> Result<u32, Difference> {
+        let (answer, buffer) = self.calls.page(bytes, length)?;
+        let due = page::answer(silo(listed), length);
+        expect(u64::from(answer) == due, bytes, || {
+            format!("page buffer of {length}: answer {answer}, {due} due")
+        })?;
+        let (page, rest) = buffer.split_at(if due == 0 { text.len() } else { 0 });
+        let same = rest.iter().all(|byte| *byte == UNTOUCHED_BYTE);
+        expect(same, bytes, || format!("answer {answer} changed bytes of the buffer of {length}"))?;
+        if let (0, Ok((silo, list))) = (due, listed) {
+            let numbers = page::numbers(page, silo.depths.len());
+            expect(numbers.is_some_and(|numbers| numbers == list), bytes, || {
+                format!("the page does not read as the list; {}", unlike(page, text))
+            })?;
+            expect(page == text.as_bytes(), bytes, || unlike(page, text))?;
+        }
+        Ok(answer)
+    }
+
+    /// The page call for an accepted sheet with buffers of these lengths.
+    pub fn page_in(&mut self, silo: &Silo, lengths: &[usize]) -> Outcome {
+        if !self.with_pages {
+            return Ok(());
+        }
+        let (bytes, list) = (silo.sheet(), self.answers(silo)?);
+        let text = page::text(silo, &list);
+        lengths
+            .iter()
+            .try_for_each(|length| self.page(&bytes, Ok((silo, &list)), &text, *length).map(|_| ()))
+    }
+
+    /// Two sheets that mean the same: both page calls answer alike, and leave alike buffers.
+    pub(super) fn same_pages(&self, one: &[u8], other: &[u8], due: usize) -> Outcome {
+        if !self.with_pages {
+            return Ok(());
+        }
+        let alike = self.calls.page_length(one)? == self.calls.page_length(other)?;
+        expect(alike, other, || "page_length differs with a headroom of 0".into())?;
+        for length in [due - 1, due] {
+            let alike = self.calls.page(one, length)? == self.calls.page(other, length)?;
+            expect(alike, other, || format!("page of {length} differs with a headroom of 0"))?;
+        }
+        Ok(())
+    }
+}
