@@ -12,6 +12,7 @@ use Rattle.janssen.specs.Numbers.{FillingNumbers}
 use Rattle.records.specs.Rules.{_unless_, first-unmet}
 use Rattle.description.specs.Silo.{strake-count, depth-count, edge-of, sum}
 use Rattle.sheet.specs.Refusal.{refusal-of}
+use Rattle.sheet.proofs.Acceptance.{answers-alike}
 use Rattle.sheet.proofs.Parts.{SameParts}
 use Rattle.loads.specs.declared.Silo.{Silo}
 use Rattle.loads.specs.Load.{Load}
@@ -23,7 +24,7 @@ use Rattle.answers.specs.Answers.{silo-of, depth, load-in, strake-in, Fi
 use Rattle.answers.specs.Promise.{Promise}
 use Rattle.answers.proofs.Places.{filled-once}
 use Rattle.answers.proofs.LengthLaws.{told-same}
-use Rattle.answers.proofs.Call.{last-rule, refused-answer, not-refused}
+use Rattle.answers.proofs.Call.{not-refused}
 
 -- the same silo, wall and depths
 pub record OneSilo (s s' : List ℕ) : Type 0 where
@@ -77,17 +78,13 @@ module _ (s s' : List ℕ) where
     pub one-length : answers-length s ≡ answers-length s'
     one-length = told-same refusals due-by
 
-    answer-by : (n : ℕ) → Dec (refusal-of s ≤ 0) → first-unmet (loads-rules s n) ≡ first-unmet (loads-rules s' n)
-    answer-by n (yes z) =
-        let h : refusal-of s ≡ 0 = omega (arith, z) in
-        last-rule s n h ∙ ap (λ (m : ℕ). first-unmet (14 unless eqb n m ∷ [])) (due-by h) ∙ sym (last-rule s' n (sym refusals ∙ h))
-    answer-by n (no z) =
-        let h : refusal-of s ≡ 0 → ⊥ = λ o. z (omega (arith, o)) in
-        refused-answer s n h ∙ refusals ∙ sym (refused-answer s' n (λ o. h (refusals ∙ o)))
+    answer-by : (n : ℕ) → first-unmet (loads-rules s n) ≡ first-unmet (loads-rules s' n)
+    unfolding loads-rules
+    answer-by n = answers-alike s s' _ _ refusals (λ h. ap (λ (m : ℕ). first-unmet (14 unless eqb n m ∷ [])) (due-by h))
 
     module _ (f : FillingNumbers) {lent left left' : List ℕ} {r r' : ℕ} (a : Promise f s lent r left) (b : Promise f s' lent r' left') where
       answers-same : r ≡ r'
-      answers-same = a .answer ∙ answer-by (length lent) (decLe (refusal-of s) 0) ∙ sym (b .answer)
+      answers-same = a .answer ∙ answer-by (length lent) ∙ sym (b .answer)
 
       left-by : Dec (r ≤ 0) → left ≡ left'
       left-by (yes z) =

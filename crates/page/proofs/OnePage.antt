@@ -12,7 +12,7 @@ use Rattle.records.specs.Rules.{_unless_, first-unmet}
 use Rattle.janssen.specs.program.Pressure.{computed}
 use Rattle.records.specs.Format.{place}
 use Rattle.sheet.specs.Refusal.{refusal-of}
-use Rattle.sheet.proofs.Acceptance.{sheet-met}
+use Rattle.sheet.proofs.Acceptance.{sheet-met, answers-alike}
 use Rattle.sheet.proofs.Parts.{SameParts}
 use Rattle.answers.specs.Factor.{with-factor, Blank}
 use Rattle.answers.specs.program.Fill.{answers}
@@ -25,7 +25,6 @@ use Rattle.page.specs.Page.{page, page-due, page-length, page-rules}
 use Rattle.page.specs.Promise.{PagePromise}
 use Rattle.page.specs.program.Text.{page-text}
 use Rattle.page.proofs.Named.{page-named}
-use Rattle.page.proofs.Call.{refused-page, last-of-page}
 
 module _ (s s' : List ℕ) where
   due-same : SameParts s s' → page-due s ≡ page-due s'
@@ -43,17 +42,13 @@ module _ (s s' : List ℕ) where
     pub one-page-length : page-length s ≡ page-length s'
     one-page-length = told-same refusals (λ h. due-same (one h .parts))
 
-    answer-by : (n : ℕ) → Dec (refusal-of s ≤ 0) → first-unmet (page-rules s n) ≡ first-unmet (page-rules s' n)
-    answer-by n (yes z) =
-        let h : refusal-of s ≡ 0 = omega (arith, z) in
-        last-of-page s n h ∙ ap (λ (m : ℕ). first-unmet (18 unless leb m n ∷ [])) (due-same (one h .parts)) ∙ sym (last-of-page s' n (sym refusals ∙ h))
-    answer-by n (no z) =
-        let h : refusal-of s ≡ 0 → ⊥ = λ o. z (omega (arith, o)) in
-        refused-page s n h ∙ refusals ∙ sym (refused-page s' n (λ o. h (refusals ∙ o)))
+    answer-by : (n : ℕ) → first-unmet (page-rules s n) ≡ first-unmet (page-rules s' n)
+    unfolding page-rules
+    answer-by n = answers-alike s s' _ _ refusals (λ h. ap (λ (m : ℕ). first-unmet (18 unless leb m n ∷ [])) (due-same (one h .parts)))
 
     module _ {lent left left' : List ℕ} {r r' : ℕ} (a : PagePromise computed s lent r left) (b : PagePromise computed s' lent r' left') where
       answers-same : r ≡ r'
-      answers-same = a .answer ∙ answer-by (length lent) (decLe (refusal-of s) 0) ∙ sym (b .answer)
+      answers-same = a .answer ∙ answer-by (length lent) ∙ sym (b .answer)
 
       accepted-by : r ≡ 0 → refusal-of s ≡ 0
       unfolding page-rules

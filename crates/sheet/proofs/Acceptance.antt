@@ -1,10 +1,11 @@
 -- A sheet is not refused exactly when it is `Accepted`: no rule of the chain refuses when each is met, and each rule's test says the
 -- inequalities of `Accepted`.
-use Prim.Native.Nat.{ℕ, _*_, _<_}
+use Prim.Native.Nat.{ℕ, _*_, _≤_, _<_}
 use mathlib.Core.Bool.{true, false, _&&_, _||_}
 use mathlib.Core.List.{List, _++_}
 use mathlib.Core.Logic.{_⊎_, inl, inr, ⊎-elim}
 use mathlib.Core.Path.{_≡_, refl, sym, _∙_}
+use native.Mathlib.Decide.{decLe}
 use native.Mathlib.Omega.{arith}
 use borrow.Author.Tests.{leb-true, ltb-true, eqb-true, le-leb, lt-ltb, eq-eqb}
 use lib.Dec.{leb, ltb, eqb}
@@ -205,6 +206,17 @@ module _ (s : List ℕ) (own : List Rule) where
   pub call-never-13 : has own 13 ≡ false → first-unmet (sheet-rules s ++ own) ≡ 13 → ⊥
   unfolding sheet-rules records-rules record-rules value-rules
   call-never-13 h = absent (sheet-rules s ++ own) 13 (omega arith) (by-count s (λ (l : List Rule). has ((l ++ value-rules s) ++ own) 13 ≡ false) h h)
+
+-- two sheets with one refusal, and the same of a call's own rules where there is none
+pub answers-alike : (s s' : List ℕ) (own own' : List Rule) → refusal-of s ≡ refusal-of s' → (refusal-of s ≡ 0 → first-unmet own ≡ first-unmet own')
+    → first-unmet (sheet-rules s ++ own) ≡ first-unmet (sheet-rules s' ++ own')
+answers-alike s s' own own' e alike = go (decLe (refusal-of s) 0)
+  where
+    go : Dec (refusal-of s ≤ 0) → first-unmet (sheet-rules s ++ own) ≡ first-unmet (sheet-rules s' ++ own')
+    go (yes z) =
+        let h : refusal-of s ≡ 0 = omega arith in
+        sheet-passed s own h ∙ alike h ∙ sym (sheet-passed s' own' (sym e ∙ h))
+    go (no z) = sheet-first s own (λ o. omega arith) ∙ e ∙ sym (sheet-first s' own' (λ o. omega (arith, e)))
 
 -- a sheet that was examined and not refused
 pub examined-met : (s : List ℕ) (j : Judged) → Examined s j → j .refused ≡ 0 → (refusal-of s ≡ 0) × (j .described ≡ described-of s)
