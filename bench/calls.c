@@ -1,7 +1,7 @@
 /* calls: prints the names of the refused sheets.
  * calls CALL SHEET: prints the stack of one call in bytes: it paints a stack, calls on it and finds the lowest byte written.
  * calls CALL SHEET COUNT: takes eleven turns on that stack, of which COUNT make the call and the others an empty one; prints nothing.
- * CALL is loads, length, page, page_length or plain. */
+ * CALL is loads, length, page, page_length, shell_patch or plain. */
 #include "measured.h"
 #include "silo.h"
 #include <stdio.h>
@@ -57,7 +57,11 @@ static size_t stack_of(void (*function)(void)) {
 static const struct {
     const char *name;
     sheet_call *call;
-} CALLS[] = {{"length", length_call}, {"page", page_call}, {"page_length", page_length_call}, {"plain", plain_loads}};
+} CALLS[] = {{"length", length_call},
+             {"page", page_call},
+             {"page_length", page_length_call},
+             {"shell_patch", shell_patch_call},
+             {"plain", plain_loads}};
 
 static sheet_call *call_named(const char *name) {
     for (size_t i = 0; i < sizeof CALLS / sizeof *CALLS; i++)

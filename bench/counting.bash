@@ -1,14 +1,17 @@
 # For bench/instructions, bench/before and bench/copies: the program that makes the calls, with any build of the library, and its counts by
 # callgrind.
 
-# What stands in for the page calls where a build has none.
-no_page() { # LIBRARY
-    nm -g --defined-only "$1" | grep ' silo_page$' >/dev/null || echo bench/no_page.c
+# What stands in for the calls that a build does not have.
+absent() { # LIBRARY
+    local call
+    for call in page shell_patch; do
+        nm -g --defined-only "$1" | grep " silo_$call\$" >/dev/null || echo bench/no_$call.c
+    done
 }
 
 build_calls() { # LIBRARY PROGRAM
     # Bound at the start, so that no call's stack has the loader's in it.
-    gcc -O2 -Wall -Wextra -Wl,-z,now -Iinclude bench/calls.c bench/measured.c bench/sheet.c bench/plain.c $(no_page "$1") "$1" -lm -o "$2"
+    gcc -O2 -Wall -Wextra -Wl,-z,now -Iinclude bench/calls.c bench/measured.c bench/sheet.c bench/plain.c $(absent "$1") "$1" -lm -o "$2"
 }
 
 collected() { # PROGRAM CALL SHEET COUNT

@@ -7,6 +7,7 @@
 
 /* Places of numbers in the tower's sheet, and its length, where a headroom's record begins. */
 enum { SIDE = 4, WEIGHT = 12, FACTOR = 20, E_I = 26, E_O = 30, HOPPER = 38, RUN = 42, STRAKES = 50, DEPTHS = 102, END = 902 };
+enum { GIVEN_DEPTH = 1000 };
 enum { LAST_STRAKE = STRAKES + 2 * (MAX_STRAKES - 1), LAST_DEPTH = DEPTHS + 4 * (MAX_DEPTHS - 1) };
 
 const struct refused REFUSED[] = {
@@ -62,6 +63,8 @@ struct sheet sheet_named(const char *call, const char *name) {
         struct sheet sheet = sheet_of(&s);
         if (strncmp(call, "page", 4) == 0)
             sheet.list = page_length(&s);
+        if (strcmp(call, "shell_patch") == 0)
+            sheet.list = SILO_SHELL_REPLY;
         sheet.answer = strstr(call, "length") ? (uint32_t)sheet.list : 0;
         return sheet;
     }
@@ -86,4 +89,10 @@ uint32_t page_call(const uint8_t *sheet, size_t sheet_len, uint32_t *answers, si
 uint32_t page_length_call(const uint8_t *sheet, size_t sheet_len, uint32_t *answers, size_t answers_len) {
     (void)answers, (void)answers_len;
     return (uint32_t)silo_page_length(sheet, sheet_len);
+}
+
+uint32_t shell_patch_call(const uint8_t *sheet, size_t sheet_len, uint32_t *answers, size_t answers_len) {
+    static int32_t reply[SILO_SHELL_REPLY];
+    (void)answers;
+    return silo_shell_patch(sheet, sheet_len, GIVEN_DEPTH, reply, answers_len);
 }

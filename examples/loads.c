@@ -1,6 +1,7 @@
 /* Asks for the loads of a circular tower of 5 m by 10 m, and of a squat bin of the same section and product, 6 m high: at 5 m the same
  * filling pressures, less on discharge. Then of the bin at a depth below its foot, which is refused, whether the tower's strakes are
- * governed by its product or by barley, and for the tower's load page. */
+ * governed by its product or by barley, for the tower's load page, and for the patch round its shell at a depth that is not listed and at
+ * one below its foot. */
 #include "silo.h"
 #include <inttypes.h>
 #include <stdio.h>
@@ -67,6 +68,18 @@ static void print_page(const char *name, const uint8_t *sheet, size_t sheet_len)
     fwrite(page, 1, length, stdout);
 }
 
+/* The first 360 numbers are the pressures at each degree, outward positive, and the last is the force. */
+static void print_patch(const char *name, const uint8_t *sheet, size_t sheet_len, uint32_t depth) {
+    int32_t reply[SILO_SHELL_REPLY];
+    uint32_t answer = silo_shell_patch(sheet, sheet_len, depth, reply, SILO_SHELL_REPLY);
+    printf("patch, %s, at %" PRIu32 " mm: answer %" PRIu32 "\n", name, depth, answer);
+    if (answer != 0)
+        return;
+    for (int degree = 0; degree < 360; degree += 60)
+        printf("%d degrees: %" PRId32 "\n", degree, reply[degree]);
+    printf("force: %" PRId32 "\n", reply[360]);
+}
+
 int main(void) {
     print_loads("tower", tower, sizeof tower);
     print_loads("squat bin", squat, sizeof squat);
@@ -74,5 +87,7 @@ int main(void) {
     print_governing();
     print_page("tower", tower, sizeof tower);
     print_page("below the foot", below, sizeof below);
+    print_patch("tower", tower, sizeof tower, 8000);
+    print_patch("tower", tower, sizeof tower, 10001);
     return 0;
 }

@@ -40,6 +40,12 @@
  *
  * No number has more than nine digits, and none of a depth more than eight, so that a space stands before each of its fields.
  *
+ * A reply list, for a circle and one depth given beside the sheet, is of 361 i32 numbers: the patch round the shell (5.11), in Pa, at
+ * each whole degree from 0 to 359, and then its total force (5.12), in N. p_p being the patch at the given depth, as in an answer list:
+ *
+ *   at theta degrees          p_p cos theta, its size rounded up, outward positive and inward negative; 0 at 90 and at 270
+ *   the force                 F_p = pi/2 s d_c p_p with s = 0.2 d_c, the patch's height, and 355/113 for pi; rounded up once
+ *
  * Refusals, tried in this order; a refused call changes no memory that it was lent:
  *
  *    1  sheet over 1,024 bytes
@@ -53,11 +59,12 @@
  *    9  a bottom that is neither flat nor a hopper with r >= 1, 2r < d_c, H <= 25,000 and 1,000,000 H >= 363,971 r (a slope
  *       of over 20 degrees)
  *   10  a strake outside 200..3,000 mm
- *   11  a depth over V, or not greater than the one before it
+ *   11  a depth over V, or not greater than the one before it; a depth given beside the sheet over V
  *   17  g >= V
  *   12  h >= 10 d_c
  *   13  retired: no call answers it, and the number is not used again
- *   14  the answer list is not exactly of the length due (silo_loads only)
+ *   19  the section is a rectangle (silo_shell_patch only)
+ *   14  the list is not exactly of the length due (silo_loads and silo_shell_patch only)
  *   15  no such row or wall in the catalogue (silo_catalogue only)
  *   16  the catalogue buffer is not of 14 bytes (silo_catalogue only)
  *   18  the page buffer is shorter than the page (silo_page only)
@@ -80,6 +87,9 @@ extern "C" {
 /* Bytes of the product record that silo_catalogue writes. */
 #define SILO_PRODUCT_RECORD 14
 
+/* Numbers of a reply list of silo_shell_patch. */
+#define SILO_SHELL_REPLY 361
+
 /* Fills the answer list of answers_len numbers for the sheet of sheet_len bytes.
  * Returns 0; or a refusal, 1 to 12, 14 or 17, and the list is as it was. */
 uint32_t silo_loads(const uint8_t *sheet, size_t sheet_len, uint32_t *answers, size_t answers_len);
@@ -95,6 +105,11 @@ uint64_t silo_page_length(const uint8_t *sheet, size_t sheet_len);
 /* Writes the page of the sheet at the start of the buffer of page_len bytes; the bytes past the page keep what they held.
  * Returns 0; or a refusal, 1 to 12, 17 or 18, and the buffer is as it was. */
 uint32_t silo_page(const uint8_t *sheet, size_t sheet_len, uint8_t *page, size_t page_len);
+
+/* Fills the reply list of reply_len numbers with the patch round the circular shell that the sheet describes, depth mm below the brim;
+ * the depth need not be listed in the sheet.
+ * Returns 0; or a refusal, 1 to 12, 17, 19 or 14, and the list is as it was. */
+uint32_t silo_shell_patch(const uint8_t *sheet, size_t sheet_len, uint32_t depth, int32_t *reply, size_t reply_len);
 
 /* Writes the product record of a row of table 7.1 of ENV 1991-4, rows counted from 0 in its order: barley, cement, clinker, dry
  * sand, flour, fly ash, maize, sugar, wheat, coal. Wall 0 is steel, wall 1 concrete.

@@ -5,7 +5,7 @@ use reference::calls::Difference;
 use reference::compare::Comparison;
 use reference::inputs::Random;
 use reference::linked::Linked;
-use reference::{limits, order, runs};
+use reference::{limits, order, runs, shell};
 
 fn stop_at<T>(outcome: Result<T, Difference>) -> T {
     outcome.unwrap_or_else(|difference| {
@@ -14,8 +14,8 @@ fn stop_at<T>(outcome: Result<T, Difference>) -> T {
     })
 }
 
-/// Compares the four calls that take a sheet for these bytes, the catalogue call for the row, wall and buffer length that they begin with, and the
-/// governing call for the halves of the numbers that they hold.
+/// Compares the five calls that take a sheet for these bytes, the shell patch call also with the depth that they end with, the catalogue call
+/// for the row, wall and buffer length that they begin with, and the governing call for the halves of the numbers that they hold.
 ///
 /// # Safety
 /// `input` points to `length` bytes.
@@ -28,6 +28,8 @@ pub unsafe extern "C" fn compare_input(input: *const u8, length: usize) {
     let row = u32::from_le_bytes([byte(0), byte(1), byte(2), byte(3)]);
     let mut comparison = Comparison::with(&Linked);
     stop_at(comparison.sheet(bytes, &[list]));
+    let depth = bytes.last_chunk().map_or(0, |last| u32::from_le_bytes(*last));
+    stop_at(comparison.patch(bytes, depth.into(), shell::LENGTH));
     stop_at(comparison.catalogue(row, byte(4).into(), usize::from(byte(8)) % 32));
     let number = |bytes: &[u8]| u32::from_le_bytes(bytes.try_into().expect("four bytes"));
     let numbers: Vec<u32> = bytes.chunks_exact(4).map(number).collect();
@@ -35,11 +37,11 @@ pub unsafe extern "C" fn compare_input(input: *const u8, length: usize) {
     stop_at(comparison.governing(first, second));
 }
 
-/// Compares the load call and its length call: every limit, two rules broken at once, and random rounds; tells how many sheets. The page
-/// calls are not made.
+/// Compares the load call and its length call: every limit, two rules broken at once, and random rounds; tells how many sheets. No other
+/// call is made.
 #[no_mangle]
 pub extern "C" fn compare_sheets(rounds: u64, seed: u64) -> u64 {
-    let mut comparison = Comparison { with_pages: false, ..Comparison::with(&Linked) };
+    let mut comparison = Comparison { loads_alone: true, ..Comparison::with(&Linked) };
     let mut random = Random::new(seed);
     stop_at(runs::table(&mut comparison, &limits::sheets()));
     stop_at(runs::table(&mut comparison, &order::sheets()));

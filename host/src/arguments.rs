@@ -2,18 +2,23 @@
 
 use silo::commands::Format;
 use silo::name::suggestion;
+use silo::number::LENGTH;
 use silo::units::Units;
+use silo::value::quantity;
 use std::ffi::{OsStr, OsString};
+use std::iter::Peekable;
 use std::path::Path;
 
 /// The commands whose output may go to a file; help is one more.
-const COMMANDS: [&str; 6] = ["loads", "page", "draw", "sheet", "explain", "catalogue"];
+const COMMANDS: [&str; 7] = ["loads", "page", "patch", "draw", "sheet", "explain", "catalogue"];
 /// Each option with the commands that it is for.
-const OPTIONS: [(&str, &[&str]); 6] = [
-    ("--csv", &["loads", "catalogue"]),
-    ("--csv-semicolon", &["loads", "catalogue"]),
+const OPTIONS: [(&str, &[&str]); 8] = [
+    ("--csv", &["loads", "patch", "catalogue"]),
+    ("--csv-semicolon", &["loads", "patch", "catalogue"]),
     ("--json", &["loads"]),
-    ("--kpa", &["loads", "draw"]),
+    ("--kpa", &["loads", "patch", "draw"]),
+    ("--depth", &["patch", "draw"]),
+    ("--all", &["patch"]),
     ("--force", &COMMANDS),
     ("-o", &COMMANDS),
 ];
@@ -28,6 +33,8 @@ struct Arguments {
     options: Vec<&'static str>,
     /// After `-o`.
     output: Option<OsString>,
+    /// After `--depth`, mm.
+    depth: Option<u32>,
 }
 
 /// A command with what it works on.
@@ -39,15 +46,23 @@ pub struct Task {
     pub output: Option<OsString>,
     pub format: Format,
     pub units: Units,
+    /// Of a patch, mm below the brim.
+    pub depth: Option<u32>,
+    /// Degrees from one pressure of a patch to the next.
+    pub step: usize,
     pub force: bool,
 }
+
+/// Without `--all`.
+const STEP: usize = 10;
 
 /// The task that the words after the program's name say, or what is wrong with them.
 pub fn read(given: impl Iterator<Item = OsString>) -> Result<Task, String> {
     arguments(given).and_then(Arguments::task)
 }
 
-fn arguments(mut given: impl Iterator<Item = OsString>) -> Result<Arguments, String> {
+fn arguments(given: impl Iterator<Item = OsString>) -> Result<Arguments, String> {
+    let mut given = given.peekable();
     let mut read = Arguments::default();
     while let Some(word) = given.next() {
         match word.to_string_lossy().as_ref() {
@@ -57,6 +72,10 @@ fn arguments(mut given: impl Iterator<Item = OsString>) -> Result<Arguments, Str
             "-o" => {
                 read.add("-o")?;
                 read.output = Some(file_after(given.next())?);
+            }
+            "--depth" => {
+                read.add("--depth")?;
+                read.depth = Some(depth_after(&mut given)?);
             }
             option if is_option(option) => read.add(option)?,
             _ => read.words.push(word),
@@ -83,6 +102,16 @@ fn file_after(word: Option<OsString>) -> Result<OsString, String> {
         )),
         false => Ok(word),
     }
+}
+
+/// The depth after `--depth`, mm: a number with its unit, in one word or in two.
+fn depth_after(given: &mut Peekable<impl Iterator<Item = OsString>>) -> Result<u32, String> {
+    let number = given.next().filter(|word| !word.is_empty());
+    let number = number.ok_or("--depth: a depth is due after it, such as 8 m")?;
+    let unit = given.next_if(|word| LENGTH.is_unit(&word.to_string_lossy())).unwrap_or_default();
+    let depth = format!("{} {}", number.display(), unit.display());
+    let depth = quantity(depth.trim(), &LENGTH).map_err(|why| format!("--depth {why}"))?;
+    Ok(depth as u32)
 }
 
 /// What is known of an option that is not.
@@ -142,6 +171,8 @@ impl Arguments {
             file,
             format: self.format()?,
             units: if self.has("--kpa") { Units::Kilo } else { Units::Whole },
+            depth: self.depth,
+            step: if self.has("--all") { 1 } else { STEP },
             force: self.has("--force"),
             output: self.output.filter(|output| output != "-"),
         })
@@ -158,6 +189,9 @@ impl Arguments {
         let file = file.unwrap_or_default().display();
         if ["sheet", "draw"].contains(&command) && self.output.is_none() {
             return Err(format!("{command} {file}: -o and the file to write are due"));
+        }
+        if command == "patch" && self.depth.is_none() {
+            return Err(format!("patch {file}: --depth and a depth are due, such as --depth 8 m"));
         }
         if self.has("--force") && self.output.as_ref().is_none_or(|output| output == "-") {
             return Err("--force: without -o and a file nothing is replaced".to_string());

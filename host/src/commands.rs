@@ -3,7 +3,8 @@
 use crate::content::Content;
 use crate::description::Description;
 use crate::files::Kind;
-use crate::library::{self, Loads, Refusal};
+use crate::library::{self, Loads, Refusal, ShellPatch};
+use crate::patch::Patch;
 use crate::report::PROGRAM;
 use crate::source::{self, Failure, Source, Unread};
 use crate::units::Units;
@@ -29,10 +30,13 @@ pub enum Format {
     Json,
 }
 
-/// The kind of file that a command's output is.
-pub fn kind(command: &str, format: Format) -> Kind {
+/// The kind of file that a command's output is; with a depth, of the patch there.
+pub fn kind(command: &str, format: Format, depth: Option<u32>) -> Kind {
     match (command, format) {
+        ("draw", _) if depth.is_some() => Kind::PatchDrawing,
         ("draw", _) => Kind::Drawing,
+        ("patch", Format::Csv | Format::CsvSemicolon) => Kind::PatchCsv,
+        ("patch", _) => Kind::Patch,
         ("sheet", _) => Kind::Sheet,
         ("page", _) => Kind::Page,
         ("explain", _) => Kind::Text,
@@ -98,12 +102,12 @@ fn calculated(bytes: &[u8]) -> Result<(Source, Loads), Failure> {
 pub fn loads(file: &str, bytes: &[u8], format: Format, units: Units) -> Outcome {
     match calculated(bytes) {
         Ok((source, loads)) => {
-            let report = source.report(file, &loads, units);
+            let report = source.report(file, units);
             done(match format {
-                Format::Table => table::page(&report),
-                Format::Csv => csv::page(&report, csv::COMMA),
-                Format::CsvSemicolon => csv::page(&report, csv::SEMICOLON),
-                Format::Json => json::page(&report),
+                Format::Table => table::page(&report, &loads),
+                Format::Csv => csv::page(&report, &loads, csv::COMMA),
+                Format::CsvSemicolon => csv::page(&report, &loads, csv::SEMICOLON),
+                Format::Json => json::page(&report, &loads),
             })
         }
         Err(Failure::Refused(refused)) if format == Format::Json => {
@@ -166,9 +170,44 @@ pub fn draw(file: &str, bytes: &[u8], units: Units) -> Outcome {
         let silo = with_more_depths(&source.silo);
         let curves = Loads::of(&silo.to_bytes(), silo.strakes.len());
         let curves = curves.map_err(|refusal: Refusal| source.refused(refusal))?;
-        Ok(draw::page(&source.report(file, &loads, units), &curves))
+        Ok(draw::page(&source.report(file, units), &loads, &curves))
     });
     drawn.map(done).unwrap_or_else(|failure| failed(file, &failure))
+}
+
+/// The patch round the shell of a file's silo, `depth` mm below the brim, as `say` writes it.
+fn patched(
+    file: &str,
+    bytes: &[u8],
+    depth: u32,
+    units: Units,
+    say: impl Fn(&Patch) -> String,
+) -> Outcome {
+    let said = source::open(bytes).and_then(|source| {
+        let shell = ShellPatch::of(&source.sheet, depth);
+        let shell = shell.map_err(|refusal| source.patch_refused(refusal, depth))?;
+        Ok(say(&Patch { report: source.report(file, units), depth, shell }))
+    });
+    said.map(done).unwrap_or_else(|failure| failed(file, &failure))
+}
+
+/// The patch round the shell every `step` degrees, and its force; it has no JSON.
+pub fn patch(
+    file: &str,
+    bytes: &[u8],
+    (depth, step): (u32, usize),
+    format: Format,
+    units: Units,
+) -> Outcome {
+    patched(file, bytes, depth, units, |patch| match format {
+        Format::Csv => csv::patch(patch, step, csv::COMMA),
+        Format::CsvSemicolon => csv::patch(patch, step, csv::SEMICOLON),
+        Format::Table | Format::Json => table::patch(patch, step),
+    })
+}
+
+pub fn draw_patch(file: &str, bytes: &[u8], depth: u32, units: Units) -> Outcome {
+    patched(file, bytes, depth, units, draw::patch)
 }
 
 /// The same silo with depths for curves: the strakes' edges, the grain's surface and even steps, at most 200.

@@ -1,9 +1,11 @@
 //! The loads as separated values: rows of the silo's description, one header, a row for each depth, for the floor or each quarter of
-//! the hopper's slope, for each strake's lower edge, and the notes. Every row has as many cells.
+//! the hopper's slope, for each strake's lower edge, and the notes. The patch round a shell likewise, with a row for each degree and for
+//! the force. Every row of a page has as many cells.
 
 use crate::description::Section;
-use crate::library::ROW;
-use crate::number::hundredths;
+use crate::library::{Loads, ROW};
+use crate::number::{hundredths, tenths};
+use crate::patch::Patch;
 use crate::report::{Report, BLANK_ANGLE, PROGRAM};
 use crate::text;
 
@@ -25,6 +27,8 @@ const CELLS: usize = 2 + ROW + 3;
 const Z: usize = 2;
 const P_HE: usize = Z + 5;
 const FLOOR: usize = Z + ROW;
+/// Of a patch: part and number, p_ps and F_p.
+const PATCH_CELLS: usize = 4;
 
 impl Dialect {
     /// The mark, and the first line.
@@ -51,69 +55,113 @@ impl Dialect {
             false => text,
         }
     }
+}
 
-    /// A row of cells at their places, the others empty.
-    fn row(self, filled: impl IntoIterator<Item = (usize, String)>) -> String {
-        let mut cells = vec![String::new(); CELLS];
-        for (place, cell) in filled {
-            cells[place] = cell;
+/// Rows of so many cells each.
+#[derive(Clone, Copy)]
+struct Rows {
+    dialect: Dialect,
+    cells: usize,
+}
+
+impl Rows {
+    /// A row that starts with its part and a number or name, then cells at their places, the others empty.
+    fn part(self, part: &str, number: impl ToString, rest: &[(usize, String)]) -> String {
+        let mut cells = vec![String::new(); self.cells];
+        cells[0] = part.to_string();
+        cells[1] = number.to_string();
+        for (place, cell) in rest {
+            cells[*place] = cell.clone();
         }
-        self.line(cells)
+        self.dialect.line(cells)
     }
 
-    /// A row that starts with its part and a number or name.
-    fn part(self, part: &str, number: impl ToString, rest: &[(usize, String)]) -> String {
-        let start = [(0, part.to_string()), (1, number.to_string())];
-        self.row(start.into_iter().chain(rest.iter().cloned()))
+    /// A name, a value and a unit.
+    fn fact(self, name: &str, value: String, unit: &str) -> String {
+        self.part("silo", name, &[(2, value), (3, unit.to_string())])
+    }
+
+    fn notes(self, notes: &[String]) -> String {
+        let note =
+            |(i, note): (usize, &String)| self.part("note", i + 1, &[(2, self.dialect.text(note))]);
+        notes.iter().enumerate().map(note).collect()
     }
 }
 
-pub fn page(report: &Report, dialect: Dialect) -> String {
-    let mut page =
-        dialect.mark.to_string() + &description(report, dialect) + &head(report, dialect);
-    for (i, numbers) in report.loads.rows().enumerate() {
+pub fn page(report: &Report, loads: &Loads, dialect: Dialect) -> String {
+    let rows = Rows { dialect, cells: CELLS };
+    let mut page = dialect.mark.to_string() + &description(report, rows) + &head(report, rows);
+    for (i, numbers) in loads.rows().enumerate() {
         let row = report.row(numbers);
         let cells = row.iter().enumerate().map(|(i, cell)| (Z + i, dialect.number(cell)));
-        page += &dialect.part("depth", i + 1, &cells.collect::<Vec<_>>());
+        page += &rows.part("depth", i + 1, &cells.collect::<Vec<_>>());
     }
-    page += &bottom(report, dialect);
+    page += &bottom(report, loads, rows);
     let load = |load: u32| dialect.number(&report.units.show(load));
-    for (i, ((_, edge), p_he)) in report.silo.edges().zip(report.loads.strakes()).enumerate() {
-        page += &dialect.part("strake", i + 1, &[(Z, edge.to_string()), (P_HE, load(*p_he))]);
+    for (i, ((_, edge), p_he)) in report.silo.edges().zip(loads.strakes()).enumerate() {
+        page += &rows.part("strake", i + 1, &[(Z, edge.to_string()), (P_HE, load(*p_he))]);
     }
-    for (i, note) in report.notes().iter().enumerate() {
-        page += &dialect.part("note", i + 1, &[(Z, dialect.text(note))]);
-    }
-    page
+    page + &rows.notes(&report.notes())
 }
 
-fn head(report: &Report, dialect: Dialect) -> String {
+fn head(report: &Report, rows: Rows) -> String {
     let pressure = report.units.pressure();
     let more = [("floor", pressure), ("P_n", pressure), ("P_t", pressure)];
     let columns = report.columns().into_iter().chain(more);
     let cells = columns.map(|(name, unit)| format!("{name} ({unit})")).enumerate();
-    dialect.part("part", "number", &cells.map(|(i, cell)| (Z + i, cell)).collect::<Vec<_>>())
+    rows.part("part", "number", &cells.map(|(i, cell)| (Z + i, cell)).collect::<Vec<_>>())
 }
 
-fn bottom(report: &Report, dialect: Dialect) -> String {
-    let load = |load: u32| dialect.number(&report.units.show(load));
+fn bottom(report: &Report, loads: &Loads, rows: Rows) -> String {
+    let load = |load: u32| rows.dialect.number(&report.units.show(load));
     if report.silo.is_flat() {
         let foot = (Z, report.silo.wall_height().to_string());
-        return dialect.part("floor", 1, &[foot, (FLOOR, load(report.loads.floor()))]);
+        return rows.part("floor", 1, &[foot, (FLOOR, load(loads.floor()))]);
     }
     let quarter = |(k, normal, tangential): (usize, u32, u32)| {
-        dialect.part("hopper", k, &[(FLOOR + 1, load(normal)), (FLOOR + 2, load(tangential))])
+        rows.part("hopper", k, &[(FLOOR + 1, load(normal)), (FLOOR + 2, load(tangential))])
     };
-    report.loads.hopper().map(quarter).collect()
+    loads.hopper().map(quarter).collect()
+}
+
+/// The patch round a shell: rows of its description, one header, a row for every degree that is listed, and the force.
+pub fn patch(patch: &Patch, step: usize, dialect: Dialect) -> String {
+    let rows = Rows { dialect, cells: PATCH_CELLS };
+    let units = patch.report.units;
+    let pressure = format!("p_ps ({})", units.pressure());
+    let force = format!("F_p ({})", units.force());
+    let mut page = dialect.mark.to_string() + &description(&patch.report, rows);
+    page += &band(patch, rows);
+    page += &rows.part("part", "number", &[(2, pressure), (3, force)]);
+    for (degree, pressure) in patch.every(step) {
+        page += &rows.part("degree", degree, &[(2, dialect.number(&units.signed(pressure)))]);
+    }
+    let force = dialect.number(&units.show(patch.shell.force()));
+    page += &rows.part("force", 1, &[(3, force)]);
+    page + &rows.notes(&patch.notes())
+}
+
+/// Where the patch acts, and its greatest pressure.
+fn band(patch: &Patch, rows: Rows) -> String {
+    let units = patch.report.units;
+    let length = |number: u64| rows.dialect.number(&tenths(number));
+    let (from, to) = patch.band();
+    let below = patch.below_surface().map(|depth| ("depth below the grain", depth.to_string()));
+    let lengths = [("depth", patch.depth.to_string())].into_iter().chain(below).chain([
+        ("s", length(patch.height())),
+        ("band from", length(from)),
+        ("band to", length(to)),
+    ]);
+    let lengths: String = lengths.map(|(name, value)| rows.fact(name, value, "mm")).collect();
+    let pressure = rows.dialect.number(&units.show(patch.shell.pressure()));
+    lengths + &rows.fact("p_p", pressure, units.pressure())
 }
 
 /// Rows of a name, a value and a unit: the order's own lines and the sheet's numbers.
-fn description(report: &Report, dialect: Dialect) -> String {
-    let silo = report.silo;
+fn description(report: &Report, rows: Rows) -> String {
+    let (silo, dialect) = (report.silo, rows.dialect);
     let mut page = String::new();
-    let mut add = |name: &str, value: String, unit: &str| {
-        page += &dialect.part("silo", name, &[(2, value), (3, unit.to_string())]);
-    };
+    let mut add = |name: &str, value: String, unit: &str| page += &rows.fact(name, value, unit);
     add("program", dialect.text(PROGRAM), "");
     add("file", dialect.text(report.file), "");
     for (name, text) in report.labels {

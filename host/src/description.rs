@@ -52,6 +52,11 @@ impl Section {
             Section::Rectangle(a, b) => a.min(b),
         }
     }
+
+    /// s = 0.2 d_c, of the patch load (5.10), tenths of a mm
+    pub fn patch_side(self) -> u64 {
+        2 * u64::from(self.shorter_side())
+    }
 }
 
 /// C0 that the library reads in place of 0, hundredths: equation 7.4 at an internal friction angle of 40°.

@@ -1,6 +1,7 @@
 //! The loads as JSON.
 
 use crate::description::Section;
+use crate::library::Loads;
 use crate::report::{Report, PROGRAM};
 use crate::units::Units;
 
@@ -41,8 +42,8 @@ fn numbers<T: ToString>(values: &[T]) -> String {
     format!("[{}]", values.iter().map(T::to_string).collect::<Vec<String>>().join(", "))
 }
 
-pub fn page(report: &Report) -> String {
-    let Report { silo, loads, units, .. } = report;
+pub fn page(report: &Report, loads: &Loads) -> String {
+    let Report { silo, units, .. } = report;
     let columns = report.columns();
     let rows = loads.rows().map(|row| {
         let names = columns.iter().map(|(name, _)| *name);

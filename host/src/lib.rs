@@ -10,10 +10,12 @@ pub mod fraction;
 pub mod library;
 pub mod name;
 pub mod number;
+pub mod patch;
 pub mod place;
 pub mod report;
 pub mod text;
 pub mod units;
+pub mod value;
 
 mod content;
 mod csv;
@@ -21,4 +23,3 @@ mod form;
 mod json;
 mod source;
 mod table;
-mod value;

@@ -1,11 +1,11 @@
-//! The proved library's six functions behind safe Rust: slices in, results out.
+//! The proved library's seven functions behind safe Rust: slices in, results out.
 
 /// Why a call was refused: the number that the library answers.
 #[derive(Clone, Copy, Debug, PartialEq, Eq)]
 pub struct Refusal(pub u32);
 
 /// What refusals 1, 2, .. mean.
-const MEANINGS: [&str; 18] = [
+const MEANINGS: [&str; 19] = [
     "the sheet is over 1024 bytes",
     "a record is cut short",
     "a record's kind is not the one due",
@@ -21,11 +21,12 @@ const MEANINGS: [&str; 18] = [
     "a depth is below the wall's foot or not greater than the one before",
     "too slender: wall and hopper, less the headroom, are 10 or more times as high as the diameter or shorter side",
     "retired, and never answered: squat silos are calculated",
-    "the answer list is not of the length due",
+    "the list is not of the length due",
     "the catalogue has no such row or wall",
     "the catalogue buffer is not of 14 bytes",
     "the headroom is the wall's height or more",
     "the page buffer is shorter than the page; lend one of the length that the library says beforehand",
+    "the section is a rectangle; the patch goes round the shell of a circle",
 ];
 
 impl Refusal {
@@ -41,11 +42,12 @@ impl Refusal {
     pub const STRAKE: Refusal = Refusal(10);
     pub const DEPTH: Refusal = Refusal(11);
     pub const TOO_SLENDER: Refusal = Refusal(12);
-    pub const ANSWERS_LENGTH: Refusal = Refusal(14);
+    pub const LIST_LENGTH: Refusal = Refusal(14);
     pub const NO_SUCH_ROW: Refusal = Refusal(15);
     pub const RECORD_LENGTH: Refusal = Refusal(16);
     pub const HEADROOM: Refusal = Refusal(17);
     pub const PAGE_LENGTH: Refusal = Refusal(18);
+    pub const RECTANGLE: Refusal = Refusal(19);
 
     pub fn meaning(self) -> &'static str {
         let place = (self.0 as usize).wrapping_sub(1);
@@ -106,6 +108,13 @@ pub fn page(sheet: &[u8]) -> Result<Vec<u8>, Refusal> {
     let mut page = vec![0; page_length(sheet)?];
     fill_page(sheet, &mut page)?;
     Ok(page)
+}
+
+/// Fills the reply list of the patch round a circular shell, `depth` mm below the brim; on refusal it is as it was.
+pub fn fill_shell_patch(sheet: &[u8], depth: u32, reply: &mut [i32]) -> Result<(), Refusal> {
+    let (lent, length) = (reply.as_mut_ptr(), reply.len());
+    // SAFETY: each pointer comes with its own slice's length; `reply` is borrowed mutably, so it overlaps nothing.
+    done(unsafe { silo_sys::silo_shell_patch(sheet.as_ptr(), sheet.len(), depth, lent, length) })
 }
 
 /// Writes the product record of a row of table 7.1; wall 0 is steel and wall 1 concrete. On refusal the buffer is as it was.
@@ -169,5 +178,39 @@ impl Loads {
 
     pub fn strakes(&self) -> &[u32] {
         self.parts().2
+    }
+}
+
+/// Whole degrees round a shell.
+pub const DEGREES: usize = 360;
+/// Numbers of a reply list: the pressure at each degree (Pa), then the force (N).
+pub const SHELL_REPLY: usize = DEGREES + 1;
+
+/// The patch round the shell of an accepted circle, at one depth.
+pub struct ShellPatch {
+    reply: [i32; SHELL_REPLY],
+}
+
+impl ShellPatch {
+    /// The patch of a sheet, `depth` mm below the brim.
+    pub fn of(sheet: &[u8], depth: u32) -> Result<ShellPatch, Refusal> {
+        let mut reply = [0; SHELL_REPLY];
+        fill_shell_patch(sheet, depth, &mut reply)?;
+        Ok(ShellPatch { reply })
+    }
+
+    /// At each degree, outward positive, Pa.
+    pub fn pressures(&self) -> &[i32] {
+        &self.reply[..DEGREES]
+    }
+
+    /// p_p, the greatest, at 0 degrees, Pa.
+    pub fn pressure(&self) -> u32 {
+        self.reply[0].unsigned_abs()
+    }
+
+    /// F_p, N
+    pub fn force(&self) -> u32 {
+        self.reply[DEGREES].unsigned_abs()
     }
 }

@@ -16,7 +16,11 @@ usage:
   silo loads FILE                     the loads as tables, or as --csv,
                                       --csv-semicolon or --json
   silo page FILE                      the load page for the folder, plain text
-  silo draw FILE -o FILE.svg          the silo to scale beside its pressures
+  silo patch FILE --depth 8 m         the patch load round the shell of a circle
+                                      at that depth, by degrees, with its force;
+                                      or as --csv or --csv-semicolon
+  silo draw FILE -o FILE.svg          the silo to scale beside its pressures;
+                                      with --depth 8 m the patch round the shell
   silo sheet FILE.silo -o FILE.sheet  the sheet of bytes that a text says
   silo explain FILE.sheet             a sheet of bytes as text
   silo catalogue                      the products of table 7.1, or as --csv or
@@ -32,7 +36,10 @@ options:
   --csv            for a spreadsheet, with commas between cells
   --csv-semicolon  the same with semicolons, and decimals with a comma
   --json           for a program
-  --kpa            loads and draw: kPa and kN/m in place of Pa and N/m
+  --kpa            loads, patch and draw: kPa, kN/m and kN in place of Pa, N/m
+                   and N
+  --depth 8 m      where the patch acts, below the brim, in mm, cm or m
+  --all            patch: every degree in place of every tenth
   --               what follows is no option but a file, such as -1.silo
 
 FILE is a silo's text or a sheet of bytes, told apart by the bytes: a sheet has
@@ -65,6 +72,8 @@ examples:
   silo loads samples/wheat-tower.silo
   silo loads samples/barley-bin.silo --csv >barley.csv
   silo page samples/wheat-tower.silo -o wheat.page
+  silo patch samples/wheat-tower.silo --depth 8 m --all --csv -o patch.csv
+  silo draw samples/wheat-tower.silo --depth 8 m -o patch.svg
   silo draw samples/cement.silo -o cement.svg
   silo sheet samples/cement.silo -o cement.sheet
   silo explain cement.sheet
@@ -127,18 +136,23 @@ impl Task {
     }
 
     fn outcome(&self, name: &str, bytes: &[u8]) -> Outcome {
-        match self.command.as_str() {
-            "loads" => commands::loads(name, bytes, self.format, self.units),
-            "page" => commands::page(name, bytes),
-            "draw" => commands::draw(name, bytes, self.units),
-            "sheet" => commands::sheet(name, bytes),
+        let (format, units) = (self.format, self.units);
+        match (self.command.as_str(), self.depth) {
+            ("loads", _) => commands::loads(name, bytes, format, units),
+            ("page", _) => commands::page(name, bytes),
+            ("patch", Some(depth)) => {
+                commands::patch(name, bytes, (depth, self.step), format, units)
+            }
+            ("draw", Some(depth)) => commands::draw_patch(name, bytes, depth, units),
+            ("draw", None) => commands::draw(name, bytes, units),
+            ("sheet", _) => commands::sheet(name, bytes),
             _ => commands::explain(name, bytes),
         }
     }
 
     /// The file to write.
     fn target(&self, input: Option<&Input>) -> Result<Option<Target<'_>>, String> {
-        let kind = commands::kind(&self.command, self.format);
+        let kind = commands::kind(&self.command, self.format, self.depth);
         let judged = |output| Target::of(output, kind, input, self.force);
         self.output.as_deref().map(judged).transpose()
     }

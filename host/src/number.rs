@@ -227,11 +227,29 @@ pub fn degrees(number: u64) -> String {
     format!("{} degrees", written.trim_end_matches('0').trim_end_matches('.'))
 }
 
+/// Tenths, without a zero behind the point.
+pub fn tenths(number: u64) -> String {
+    match number % 10 {
+        0 => (number / 10).to_string(),
+        tenth => format!("{}.{tenth}", number / 10),
+    }
+}
+
 pub fn hundredths(number: u64) -> String {
     format!("{}.{:02}", number / 100, number % 100)
 }
 
 impl Measure {
+    /// The power of ten for a unit of this quantity, in capitals or not.
+    fn power_of(&self, unit: &str) -> Option<u32> {
+        let known = self.units.iter().find(|(known, _)| known.eq_ignore_ascii_case(unit));
+        known.map(|(_, power)| *power)
+    }
+
+    pub fn is_unit(&self, word: &str) -> bool {
+        self.power_of(word).is_some()
+    }
+
     fn has_unit(&self) -> bool {
         self.units.iter().any(|(unit, _)| !unit.is_empty())
     }
@@ -302,10 +320,7 @@ impl Measure {
             let mend = mend.map(|mend| format!("; {mend}")).unwrap_or_default();
             return Err(format!("{number} {written}: {} has no unit{mend}", self.name));
         }
-        let plain = plain_unit(written);
-        let known = self.units.iter().find(|(unit, _)| unit.eq_ignore_ascii_case(&plain));
-        let known = known.map(|(_, power)| *power);
-        known.ok_or_else(|| {
+        self.power_of(&plain_unit(written)).ok_or_else(|| {
             format!(
                 "{number} {written}: unknown unit {written}; {} is in {}",
                 self.name,

@@ -4,7 +4,8 @@ use crate::description::{Description, Section};
 use crate::library::Refusal;
 use crate::name::Name;
 use crate::number::{
-    hundredths, millimetres, newtons, Measure, FACTOR, FRICTION, RATIO, SIDE, STRAKE, WEIGHT,
+    hundredths, millimetres, newtons, tenths, Measure, FACTOR, FRICTION, RATIO, SIDE, STRAKE,
+    WEIGHT,
 };
 use std::ops::RangeInclusive;
 
@@ -315,10 +316,7 @@ fn in_strakes(wall: u64) -> Option<String> {
 fn depths(silo: &Description, sizes: &Sizes) -> Vec<Place> {
     let mut found = Vec::new();
     for (i, depth) in silo.depths.iter().enumerate() {
-        if let Some(foot) = sizes.wall.filter(|foot| u64::from(*depth) > *foot) {
-            let why = format!(
-                "below the wall's foot; it must be at most the sum of the strakes, {foot} mm"
-            );
+        if let Some(why) = below_foot(*depth, sizes) {
             found.push(Place { field: Field::Depth(i), why });
         } else if i > 0 && *depth <= silo.depths[i - 1] {
             let why = format!("it follows {} mm; depths must rise", silo.depths[i - 1]);
@@ -326,6 +324,26 @@ fn depths(silo: &Description, sizes: &Sizes) -> Vec<Place> {
         }
     }
     found
+}
+
+fn below_foot(depth: u32, sizes: &Sizes) -> Option<String> {
+    let foot = sizes.wall.filter(|foot| u64::from(depth) > *foot)?;
+    Some(format!("below the wall's foot; it must be at most the sum of the strakes, {foot} mm"))
+}
+
+/// What is wrong with a depth that is given beside the sheet.
+pub fn given_depth(depth: u32, silo: &Description) -> Option<String> {
+    below_foot(depth, &Sizes::sound(silo))
+}
+
+/// A rectangle, where a circle is due.
+pub fn rectangle(silo: &Description) -> Option<Place> {
+    let Section::Rectangle(..) = silo.section else { return None };
+    let squares = format!("two opposite squares of s = {} mm", tenths(silo.section.patch_side()));
+    let why = format!(
+        "a circle is due; silo loads has a rectangle's p_p, which acts on {squares} (5.10)"
+    );
+    Some(Place { field: Field::Line(Name::Sides), why })
 }
 
 /// A headroom that leaves no grain at the wall: g >= V.

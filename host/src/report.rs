@@ -1,11 +1,11 @@
-//! What every output says: the silo with its loads, the order's own lines, where the product's numbers come from, and what the
-//! loads leave out.
+//! What every output says beside its loads: the silo, the order's own lines, where the product's numbers come from, and what the loads
+//! leave out.
 
 use crate::catalogue::Origin;
 use crate::description::{Description, Section};
 use crate::discharge::{Discharge, Shape};
-use crate::library::{Loads, ROW};
-use crate::number::hundredths;
+use crate::library::ROW;
+use crate::number::{hundredths, tenths};
 use crate::units::Units;
 
 /// The program that wrote an output, and its rules.
@@ -19,7 +19,6 @@ pub struct Report<'a> {
     pub silo: &'a Description,
     pub origin: &'a Origin,
     pub labels: &'a Labels,
-    pub loads: &'a Loads,
     pub units: Units,
 }
 
@@ -72,19 +71,38 @@ impl Report<'_> {
         let silo = self.silo;
         let discharge = self.discharge();
         let flat_and_squat = silo.is_flat() && discharge.shape != Shape::Slender;
+        let of_loads = [
+            Some(wall_load(&discharge)),
+            Some(patch(silo)),
+            self.unreduced(),
+            flat_and_squat.then(|| heap(silo)),
+            (!silo.is_flat()).then(|| TRANSITION.to_string()),
+            silo.outlet_is_passed().then(|| eccentricity(silo)),
+        ];
+        let mut notes = self.notes_of_silo();
+        notes.extend(of_loads.into_iter().flatten());
+        notes
+    }
+
+    /// Those of the rules, the grain and the product, which every output has.
+    pub fn notes_of_silo(&self) -> Vec<String> {
+        let silo = self.silo;
         let notes = [
             Some(EDITION.to_string()),
             (silo.headroom > 0).then(|| headroom(silo)),
             self.origin.has_friction_on_steel(&silo.product).then(|| friction(silo)),
             (silo.product.factor == 0).then(|| blank_factor(silo)),
-            Some(wall_load(&discharge)),
-            Some(patch(silo)),
-            unreduced(discharge.shape).map(str::to_string),
-            flat_and_squat.then(|| heap(silo)),
-            (!silo.is_flat()).then(|| TRANSITION.to_string()),
-            silo.outlet_is_passed().then(|| eccentricity(silo)),
         ];
         notes.into_iter().flatten().collect()
+    }
+
+    /// What clause 5.3 lets be less in a squat silo.
+    pub fn unreduced(&self) -> Option<String> {
+        match self.discharge().shape {
+            Shape::Slender => None,
+            Shape::Squat => Some(SQUAT.to_string()),
+            Shape::Low => Some(LOW.to_string()),
+        }
     }
 }
 
@@ -92,6 +110,11 @@ const EDITION: &str =
     "ENV 1991-4:1995, which EN 1991-4:2006 has replaced; characteristic values without partial factors.";
 const TRANSITION: &str =
     "Hopper: without the extra pressure at the transition of a mass-flow hopper (5.26), which these rules do not cover.";
+const SQUAT: &str =
+    "Squat silo: patch load (5.36) and pressure near the surface (5.3, 3) are not reduced; both err on the heavy side.";
+const LOW: &str =
+    "Squat silo, no higher than wide: the patch load is given, which 5.33 makes 0, and the pressure near the surface is not reduced \
+     (5.3, 3); both err on the heavy side.";
 
 /// Where a blank factor comes from.
 pub const BLANK_ANGLE: &str = "7.4 at 40 degrees";
@@ -137,20 +160,6 @@ fn wall_load(discharge: &Discharge) -> String {
     format!("P_w is the filling value; {discharge}.")
 }
 
-/// What clause 5.3 lets be less in a squat silo.
-fn unreduced(shape: Shape) -> Option<&'static str> {
-    match shape {
-        Shape::Slender => None,
-        Shape::Squat => Some(
-            "Squat silo: patch load (5.36) and pressure near the surface (5.3, 3) are not reduced; both err on the heavy side.",
-        ),
-        Shape::Low => Some(
-            "Squat silo, no higher than wide: the patch load is given, which 5.33 makes 0, and the pressure near the surface is not \
-             reduced (5.3, 3); both err on the heavy side.",
-        ),
-    }
-}
-
 fn friction(silo: &Description) -> String {
     format!(
         "Friction {} is that of table 7.1 on steel; it does not hold for corrugated walls (note 4 to the table).",
@@ -167,7 +176,7 @@ fn eccentricity(silo: &Description) -> String {
 
 /// Where the patch load acts (5.2.1.1 and 5.24).
 fn patch(silo: &Description) -> String {
-    let side_in_tenths = 2 * u64::from(silo.section.shorter_side());
+    let side_in_tenths = silo.section.patch_side();
     let side = tenths(side_in_tenths);
     let place = match silo.section {
         Section::Circle(_) => {
@@ -185,14 +194,6 @@ fn patch(silo: &Description) -> String {
         false => "",
     };
     format!("p_he and the strakes' numbers are without the patch load p_p, which is to be added: it acts on {place}.{lower}")
-}
-
-/// A number of tenths, without a zero behind the point.
-fn tenths(number: u64) -> String {
-    match number % 10 {
-        0 => (number / 10).to_string(),
-        tenth => format!("{}.{tenth}", number / 10),
-    }
 }
 
 /// Lines of whole words, each at most so many characters wide unless one word is wider.

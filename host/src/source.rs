@@ -3,7 +3,8 @@
 use crate::catalogue::Origin;
 use crate::content::{self, Content};
 use crate::description::Description;
-use crate::library::{Loads, Refusal};
+use crate::library::Refusal;
+use crate::number::millimetres;
 use crate::place::{self, Place};
 use crate::report::{Labels, Report};
 use crate::text::{self, Text};
@@ -104,21 +105,42 @@ pub fn open_sheet(sheet: &[u8]) -> Result<Source, Failure> {
 }
 
 impl Source {
-    pub fn report<'a>(&'a self, file: &'a str, loads: &'a Loads, units: Units) -> Report<'a> {
+    pub fn report<'a>(&'a self, file: &'a str, units: Units) -> Report<'a> {
         let Source { silo, origin, labels, .. } = self;
-        Report { file, silo, origin, labels, loads, units }
+        Report { file, silo, origin, labels, units }
     }
 
     /// The library's refusal with its places in this file, and the other limits that are broken.
     pub fn refused(&self, refusal: Refusal) -> Failure {
+        self.refused_among(refusal, Vec::new())
+    }
+
+    /// The same of a patch round the shell at a depth that is given beside the file.
+    pub fn patch_refused(&self, refusal: Refusal, depth: u32) -> Failure {
+        let given = place::given_depth(depth, &self.silo).map(|what| {
+            let position = format!("--depth {}", millimetres(depth.into()));
+            (Refusal::DEPTH, Where { position, line: None, what })
+        });
+        let section = place::rectangle(&self.silo);
+        let section = section.map(|place| (Refusal::RECTANGLE, self.place(&place)));
+        self.refused_among(refusal, given.into_iter().chain(section).collect())
+    }
+
+    /// `own` are limits that the call has beyond those of the sheet, each broken and with its refusal.
+    fn refused_among(&self, refusal: Refusal, own: Vec<(Refusal, Where)>) -> Failure {
         let wheres = place::places(refusal, &self.silo);
         let others = place::others(refusal, &self.silo);
-        let wheres: Vec<Where> = wheres.iter().map(|place| self.place(place)).collect();
+        let (first, own): (Vec<_>, Vec<_>) =
+            own.into_iter().partition(|(rule, _)| *rule == refusal);
+        let wheres = wheres.iter().map(|place| self.place(place));
+        let wheres: Vec<Where> = wheres.chain(first.into_iter().map(|(_, place)| place)).collect();
+        let others = others.iter().map(|(rule, place)| (*rule, self.place(place)));
+        let mut others: Vec<(Refusal, Where)> = others.chain(own).collect();
         let room = MOST_MESSAGES - wheres.len();
         let more = others.len().saturating_sub(room);
-        let others = others.iter().take(room).map(|(rule, place)| (*rule, self.place(place)));
+        others.truncate(room);
         let later = place::later(&self.silo);
-        Failure::Refused(Refused { refusal, wheres, others: others.collect(), more, later })
+        Failure::Refused(Refused { refusal, wheres, others, more, later })
     }
 
     fn place(&self, Place { field, why }: &Place) -> Where {

@@ -1,6 +1,8 @@
 //! The loads as tables that a person reads.
 
 use crate::description::Section;
+use crate::library::Loads;
+use crate::patch::{Patch, LAW};
 use crate::report::{wrapped, Report, PROGRAM};
 use crate::text;
 use crate::units::Units;
@@ -14,7 +16,7 @@ discharge: p_he horizontal, p_we wall friction, p_p patch load
 /// Characters of the tables' widest part, which notes keep to as well.
 const WIDTH: usize = 76;
 
-pub fn page(report: &Report) -> String {
+pub fn page(report: &Report, loads: &Loads) -> String {
     let line = |fields: Vec<String>| line(report, fields);
     let begins = match report.silo.headroom {
         0 => String::new(),
@@ -25,10 +27,26 @@ pub fn page(report: &Report) -> String {
     let columns = report.columns();
     page += &line(columns.map(|(name, _)| name.to_string()).to_vec());
     page += &line(columns.map(|(_, unit)| unit.to_string()).to_vec());
-    for row in report.loads.rows() {
+    for row in loads.rows() {
         page += &line(report.row(row));
     }
-    page + LEGEND + &bottom(report) + &strakes(report) + &notes(report)
+    page + LEGEND + &bottom(report, loads) + &strakes(report, loads) + &notes(&report.notes())
+}
+
+/// The patch round a shell, every `step` degrees.
+pub fn patch(patch: &Patch, step: usize) -> String {
+    let report = &patch.report;
+    let mut page = format!("{}\n", heading(report));
+    for fact in patch.facts(str::to_string) {
+        page += &format!("{fact}\n");
+    }
+    page += "\n";
+    page += &line(report, ["degrees", "p_ps"]);
+    page += &line(report, ["", report.units.pressure()]);
+    for (degree, pressure) in patch.every(step) {
+        page += &line(report, [degree.to_string(), report.units.signed(pressure)]);
+    }
+    format!("{page}\n{LAW}\n{}", notes(&patch.notes()))
 }
 
 /// The file, the order's own lines, and the sheet's numbers.
@@ -68,8 +86,8 @@ fn heading(report: &Report) -> String {
         )
 }
 
-fn bottom(report: &Report) -> String {
-    let Report { silo, loads, units, .. } = report;
+fn bottom(report: &Report, loads: &Loads) -> String {
+    let Report { silo, units, .. } = report;
     let unit = units.pressure();
     if silo.is_flat() {
         let head = line(report, ["floor"]) + &line(report, [unit]);
@@ -86,12 +104,12 @@ fn bottom(report: &Report) -> String {
     page
 }
 
-fn strakes(report: &Report) -> String {
+fn strakes(report: &Report, loads: &Loads) -> String {
     let mut page =
         "\nStrakes, top first: horizontal pressure on discharge at the lower edge\n".to_string();
     page += &line(report, ["strake", "height", "edge", "p_he"]);
     page += &line(report, ["", "mm", "mm", report.units.pressure()]);
-    let strakes = report.silo.edges().zip(report.loads.strakes());
+    let strakes = report.silo.edges().zip(loads.strakes());
     for (i, ((height, edge), load)) in strakes.enumerate() {
         let [number, height, edge] = [i as u64 + 1, height.into(), edge].map(|n| n.to_string());
         page += &line(report, [number, height, edge, report.units.show(*load)]);
@@ -100,10 +118,10 @@ fn strakes(report: &Report) -> String {
 }
 
 /// What the loads leave out, and the program.
-fn notes(report: &Report) -> String {
+fn notes(notes: &[String]) -> String {
     let mut page = "\nNotes\n".to_string();
-    for note in report.notes() {
-        page += &format!("- {}\n", wrapped(&note, WIDTH - 2).join("\n  "));
+    for note in notes {
+        page += &format!("- {}\n", wrapped(note, WIDTH - 2).join("\n  "));
     }
     format!("{page}\n{PROGRAM}\n")
 }

@@ -4,369 +4,18 @@
 
 mod common;
 mod page;
+mod silos;
 
-use common::{sample, text_with, Random, FLAT};
-use page::{Page, Text};
+use common::{sample, Random};
+use page::{bare, Page, Text};
 use silo::description::Description;
 use silo::discharge::{Discharge, Shape};
 use silo::draw;
 use silo::library::Loads;
 use silo::report::{Labels, Report, PROGRAM};
-use silo::text;
 use silo::units::Units;
+use silos::{any_silo, case, described, filled, labels, texts};
 use std::path::PathBuf;
-
-/// What differs from the silo of `common`; `true` has a flat floor.
-type Case = (&'static str, bool, &'static [(&'static str, &'static str)]);
-
-const CASES: [Case; 53] = [
-    ("bin", false, &[]),
-    ("tower", true, &[]),
-    ("eccentric-tower", true, &[("e_o", "1 m"), ("e_i", "20 mm")]),
-    (
-        "widest-tower",
-        true,
-        &[("diameter", "48 m"), ("strakes", "24 x 3 m"), ("e_i", "12 m"), ("e_o", "12 m")],
-    ),
-    (
-        "slender-tower",
-        true,
-        &[("diameter", "7300 mm"), ("strakes", "24 x 3 m"), ("e_o", "1825 mm")],
-    ),
-    (
-        "heaviest",
-        true,
-        &[
-            ("diameter", "48 m"),
-            ("strakes", "24 x 3 m"),
-            ("weight", "30 kN/m3"),
-            ("ratio", "1.00"),
-            ("friction", "0.10"),
-            ("factor", "2.00"),
-            ("e_o", "12 m"),
-        ],
-    ),
-    ("one-strake", true, &[("diameter", "2 m"), ("strakes", "3 m"), ("e_i", "500 mm")]),
-    (
-        "slender-strake",
-        true,
-        &[("diameter", "500 mm"), ("strakes", "3 m"), ("e_i", "1 mm"), ("e_o", "125 mm")],
-    ),
-    ("smallest", true, &[("diameter", "500 mm"), ("strakes", "4 x 200 mm")]),
-    ("low-strakes", true, &[("diameter", "500 mm"), ("strakes", "24 x 200 mm")]),
-    ("mixed-strakes", true, &[("strakes", "3 m, 10 x 200 mm, 3 m, 12 x 200 mm"), ("e_i", "1 m")]),
-    (
-        "smallest-bin",
-        false,
-        &[
-            ("diameter", "500 mm"),
-            ("strakes", "3 x 200 mm"),
-            ("hopper height", "200 mm"),
-            ("hopper run", "249 mm"),
-            ("e_o", "125 mm"),
-            ("e_i", "125 mm"),
-        ],
-    ),
-    (
-        "largest-bin",
-        false,
-        &[
-            ("diameter", "50 m"),
-            ("strakes", "24 x 3 m"),
-            ("hopper height", "25 m"),
-            ("hopper run", "24999 mm"),
-            ("e_i", "12500 mm"),
-            ("e_o", "12500 mm"),
-        ],
-    ),
-    (
-        "wide-outlet",
-        false,
-        &[
-            ("diameter", "50 m"),
-            ("strakes", "24 x 3 m"),
-            ("hopper height", "25 m"),
-            ("hopper run", "1 mm"),
-            ("e_i", "12500 mm"),
-            ("e_o", "12500 mm"),
-        ],
-    ),
-    (
-        "slender-bin",
-        false,
-        &[
-            ("diameter", "10 m"),
-            ("strakes", "24 x 3 m"),
-            ("hopper height", "25 m"),
-            ("hopper run", "4 m"),
-            ("e_o", "999 mm"),
-        ],
-    ),
-    (
-        "high-hopper",
-        false,
-        &[
-            ("diameter", "16 m"),
-            ("strakes", "200 mm"),
-            ("hopper height", "25 m"),
-            ("hopper run", "7999 mm"),
-            ("e_o", "4 m"),
-        ],
-    ),
-    (
-        "strakes-on-a-high-hopper",
-        false,
-        &[
-            ("diameter", "19 m"),
-            ("strakes", "24 x 200 mm"),
-            ("hopper height", "25 m"),
-            ("hopper run", "5 m"),
-            ("e_i", "4750 mm"),
-            ("e_o", "4499 mm"),
-        ],
-    ),
-    (
-        "half-hopper",
-        false,
-        &[
-            ("diameter", "9 m"),
-            ("strakes", "12 x 500 mm"),
-            ("hopper height", "8 m"),
-            ("hopper run", "4400 mm"),
-            ("e_o", "101 mm"),
-        ],
-    ),
-    ("tiny-outlet", false, &[("hopper run", "2499 mm"), ("e_o", "1 mm")]),
-    ("passed-by-little", false, &[("hopper run", "2499 mm"), ("e_o", "2 mm")]),
-    (
-        "smallest-hopper",
-        false,
-        &[("hopper height", "1 mm"), ("hopper run", "1 mm"), ("e_o", "1250 mm")],
-    ),
-    ("low-hopper", false, &[("hopper height", "729 mm"), ("hopper run", "2 m"), ("e_o", "1 m")]),
-    (
-        "narrow-rectangle",
-        true,
-        &[
-            ("diameter", "-"),
-            ("sides", "50000 x 500 mm"),
-            ("strakes", "8 x 600 mm"),
-            ("e_i", "125 mm"),
-        ],
-    ),
-    (
-        "rectangular-bin",
-        false,
-        &[
-            ("diameter", "-"),
-            ("sides", "500 x 50000 mm"),
-            ("strakes", "10 x 300 mm"),
-            ("hopper height", "900 mm"),
-            ("hopper run", "100 mm"),
-            ("e_o", "125 mm"),
-        ],
-    ),
-    ("lowest-store", true, &[("diameter", "50 m"), ("strakes", "200 mm")]),
-    (
-        "low-store",
-        true,
-        &[("diameter", "50 m"), ("strakes", "3 x 1 m"), ("e_i", "12.5 m"), ("e_o", "12500 mm")],
-    ),
-    (
-        "low-store-of-many-strakes",
-        true,
-        &[("diameter", "50 m"), ("strakes", "24 x 200 mm"), ("e_i", "1 mm"), ("e_o", "1 mm")],
-    ),
-    (
-        "store-on-a-hopper",
-        false,
-        &[
-            ("diameter", "50 m"),
-            ("strakes", "2 x 3 m"),
-            ("hopper height", "12 m"),
-            ("hopper run", "24 m"),
-            ("e_o", "1000 mm"),
-        ],
-    ),
-    (
-        "store-on-the-highest-hopper",
-        false,
-        &[
-            ("diameter", "50 m"),
-            ("strakes", "24 x 200 mm"),
-            ("hopper height", "25 m"),
-            ("hopper run", "24999 mm"),
-            ("e_o", "12500 mm"),
-        ],
-    ),
-    (
-        "store-on-a-low-hopper",
-        false,
-        &[
-            ("diameter", "50 m"),
-            ("strakes", "3 m"),
-            ("hopper height", "4 m"),
-            ("hopper run", "10 m"),
-            ("e_i", "12.5 m"),
-        ],
-    ),
-    (
-        "store-on-the-lowest-hopper",
-        false,
-        &[
-            ("diameter", "50 m"),
-            ("strakes", "200 mm"),
-            ("hopper height", "1 mm"),
-            ("hopper run", "1 mm"),
-            ("e_i", "12.5 m"),
-            ("e_o", "1 mm"),
-        ],
-    ),
-    ("as-high-as-wide", true, &[("diameter", "8 m"), ("strakes", "8 x 1 m"), ("e_i", "1 m")]),
-    ("just-squat", true, &[("strakes", "2 x 3000, 1499 mm")]),
-    ("smallest-store", true, &[("diameter", "500 mm"), ("strakes", "200 mm"), ("e_o", "125 mm")]),
-    (
-        "rectangular-store",
-        true,
-        &[
-            ("diameter", "-"),
-            ("sides", "50 x 49.999 m"),
-            ("strakes", "2 x 3000 mm"),
-            ("e_o", "12 m"),
-        ],
-    ),
-    (
-        "heaviest-store",
-        false,
-        &[
-            ("diameter", "49999 mm"),
-            ("strakes", "24 x 2 m"),
-            ("hopper height", "25 m"),
-            ("hopper run", "24 m"),
-            ("weight", "30 kN/m3"),
-            ("ratio", "1.00"),
-            ("friction", "0.10"),
-            ("factor", "2.00"),
-            ("e_o", "12 m"),
-        ],
-    ),
-    ("headroom", false, &[("headroom", "300 mm"), ("e_i", "200 mm")]),
-    ("least-headroom", true, &[("headroom", "1 mm"), ("e_i", "1250 mm")]),
-    ("blank-factor-of-a-tower", true, &[("factor", "")]),
-    (
-        "many-notes",
-        false,
-        &[("factor", ""), ("strakes", "2 x 2 m"), ("headroom", "300 mm"), ("e_o", "1250 mm")],
-    ),
-    ("headroom-to-an-edge", false, &[("headroom", "2 m"), ("e_o", "1250 mm")]),
-    (
-        "headroom-over-edges",
-        true,
-        &[("strakes", "20 x 500 mm"), ("headroom", "3 m"), ("e_i", "1 m")],
-    ),
-    ("half-headroom", false, &[("headroom", "5 m"), ("e_i", "1250 mm")]),
-    ("greatest-headroom", false, &[("headroom", "9999 mm"), ("e_i", "500 mm")]),
-    ("greatest-headroom-over-a-floor", true, &[("headroom", "9999 mm")]),
-    (
-        "widest-tower-with-headroom",
-        true,
-        &[("diameter", "48 m"), ("strakes", "24 x 3 m"), ("headroom", "12345 mm"), ("e_i", "12 m")],
-    ),
-    (
-        "slender-tower-with-headroom",
-        true,
-        &[
-            ("diameter", "7300 mm"),
-            ("strakes", "24 x 3 m"),
-            ("headroom", "800 mm"),
-            ("e_i", "1825 mm"),
-        ],
-    ),
-    (
-        "wall-over-ten-widths",
-        true,
-        &[
-            ("diameter", "500 mm"),
-            ("strakes", "24 x 3 m"),
-            ("headroom", "67001 mm"),
-            ("e_i", "125 mm"),
-        ],
-    ),
-    (
-        "largest-bin-with-headroom",
-        false,
-        &[
-            ("diameter", "50 m"),
-            ("strakes", "24 x 3 m"),
-            ("hopper height", "25 m"),
-            ("hopper run", "24999 mm"),
-            ("headroom", "71999 mm"),
-            ("e_i", "12500 mm"),
-            ("e_o", "12500 mm"),
-        ],
-    ),
-    (
-        "low-store-with-headroom",
-        true,
-        &[("diameter", "50 m"), ("strakes", "3 x 1 m"), ("headroom", "400 mm"), ("e_i", "12.5 m")],
-    ),
-    (
-        "lowest-store-with-headroom",
-        true,
-        &[("diameter", "50 m"), ("strakes", "200 mm"), ("headroom", "199 mm")],
-    ),
-    (
-        "store-on-a-hopper-with-headroom",
-        false,
-        &[
-            ("diameter", "50 m"),
-            ("strakes", "2 x 3 m"),
-            ("hopper height", "12 m"),
-            ("hopper run", "24 m"),
-            ("headroom", "1500 mm"),
-            ("e_i", "1 mm"),
-        ],
-    ),
-    (
-        "smallest-bin-with-headroom",
-        false,
-        &[
-            ("diameter", "500 mm"),
-            ("strakes", "3 x 200 mm"),
-            ("hopper height", "200 mm"),
-            ("hopper run", "249 mm"),
-            ("headroom", "60 mm"),
-            ("e_i", "125 mm"),
-        ],
-    ),
-];
-
-fn described(text: &str) -> (Description, silo::catalogue::Origin) {
-    let text = text::read(text).unwrap_or_else(|errors| panic!("{text}: {errors:?}"));
-    (text.description, text.origin)
-}
-
-fn case(flat: bool, changes: &[(&str, &str)]) -> String {
-    let long = |name| match name {
-        "e_i" => "filling eccentricity",
-        "e_o" => "outlet eccentricity",
-        name => name,
-    };
-    let changes = changes.iter().map(|(name, value)| (long(*name), *value));
-    let bottom: &[(&str, &str)] = if flat { &FLAT } else { &[] };
-    let depths = [("depths", "0 mm")];
-    text_with(&[&depths, bottom, &changes.collect::<Vec<(&str, &str)>>()].concat())
-}
-
-/// Labels of the greatest length: 60 characters each, 200 the note.
-fn labels(fill: &str) -> Labels {
-    let names = ["project", "customer", "place", "author", "date", "revision", "note"];
-    let text = |name: &str| {
-        let most = if name == "note" { 200 } else { 60 };
-        fill.chars().cycle().take(most).collect::<String>().trim().to_string()
-    };
-    names.iter().map(|name| (*name, text(name))).collect()
-}
 
 struct Drawing {
     name: String,
@@ -386,8 +35,8 @@ fn drawing(name: &str, text: &str, labels: &Labels, units: Units) -> Drawing {
     let curves = loads(&Description { depths, ..silo.clone() }).unwrap_or_else(refused);
     let loads = loads(&silo).unwrap_or_else(refused);
     let file = format!("orders/{name}.silo");
-    let report = Report { file: &file, silo: &silo, origin: &origin, labels, loads: &loads, units };
-    let svg = draw::page(&report, &curves);
+    let report = Report { file: &file, silo: &silo, origin: &origin, labels, units };
+    let svg = draw::page(&report, &loads, &curves);
     let mut said = report.notes();
     said.extend([report.product(), report.discharge().shown()]);
     said.extend(labels.iter().map(|(_, text)| text.clone()));
@@ -410,81 +59,23 @@ fn drawing(name: &str, text: &str, labels: &Labels, units: Units) -> Drawing {
 
 /// Every case and sample, without labels and with those of the greatest length, in Pa and kPa.
 fn drawings() -> Vec<Drawing> {
-    let plain = "Grain store no. 7 of the <Lower & Upper> \"Mill\", owner's yard ";
-    let filled = [
-        ("", Labels::new(), Units::Whole),
-        ("-labels", labels(plain), Units::Whole),
-        ("-kpa", labels("W"), Units::Kilo),
-        ("-wide", labels("粮仓 Щ"), Units::Whole),
-    ];
-    let mut texts: Vec<(String, String)> = CASES
-        .iter()
-        .map(|(name, flat, changes)| (name.to_string(), case(*flat, changes)))
-        .collect();
-    for name in
-        ["wheat-tower", "barley-bin", "cement", "flat-store", "headroom-bin", "blank-factor"]
-    {
-        let text = String::from_utf8(sample(&format!("{name}.silo"))).expect(name);
-        texts.push((name.to_string(), text));
-    }
+    let filled = filled();
     let each = |(name, text): &(String, String)| {
         let one = |(more, labels, units): &(&str, Labels, Units)| {
             drawing(&format!("{name}{more}"), text, labels, *units)
         };
         filled.iter().map(one).collect::<Vec<Drawing>>()
     };
-    texts.iter().flat_map(each).collect()
-}
-
-/// 7 pt
-const LEAST_TYPE: f64 = 7.0 * 96.0 / 72.0;
-/// 10 mm of a page of 297 by 210 mm
-const MARGIN: f64 = 10.0 * 96.0 / 25.4;
-const PAPER: (f64, f64) = (297.0 * 96.0 / 25.4, 210.0 * 96.0 / 25.4);
-
-fn unreadable(page: &Page) -> Vec<String> {
-    let small = page.texts.iter().filter(|text| text.least_size < LEAST_TYPE);
-    small.map(|text| format!("under 7 pt: {text:?}")).collect()
-}
-
-fn outside(page: &Page) -> Vec<String> {
-    let corners = page.texts.iter().flat_map(|text| [text.low, text.high]);
-    let all = corners.chain(page.points.iter().copied());
-    let outside =
-        all.filter(|(x, y)| x.min(*y) < MARGIN || *x > PAPER.0 - MARGIN || *y > PAPER.1 - MARGIN);
-    outside.map(|point| format!("over the margins: {point:?}")).collect()
-}
-
-/// Texts side by side stand at least so far apart, more than a space of their own.
-const BESIDE: f64 = 5.0;
-
-fn overlapping(page: &Page) -> Vec<String> {
-    let meet = |a: &Text, b: &Text| {
-        let level = a.low.0 < b.high.0 + BESIDE && b.low.0 < a.high.0 + BESIDE;
-        level && a.low.1 < b.high.1 && b.low.1 < a.high.1
-    };
-    let mut faults = Vec::new();
-    for (i, one) in page.texts.iter().enumerate() {
-        let others = page.texts[i + 1..].iter().filter(|other| meet(one, other));
-        faults.extend(others.map(|other| format!("{one:?} on {other:?}")));
-    }
-    faults
+    texts().iter().flat_map(each).collect()
 }
 
 /// What makes a drawing unfit to be printed and filed.
 fn faults(drawing: &Drawing) -> Vec<String> {
-    let page = &drawing.page;
-    let faults = [unreadable(page), outside(page), overlapping(page), unsaid(drawing)].concat();
+    let faults = [drawing.page.faults(), unsaid(drawing)].concat();
     faults.into_iter().map(|fault| format!("{}: {fault}\n", drawing.name)).collect()
 }
 
-/// Without spaces and the mark of a lowered letter.
-fn bare(text: &str) -> String {
-    text.chars().filter(|c| !c.is_whitespace() && *c != '_' && *c != '\u{200b}').collect()
-}
-
 fn unsaid(drawing: &Drawing) -> Vec<String> {
-    let page: String = drawing.page.texts.iter().map(|text| bare(&text.words)).collect();
     let mut said = drawing.said.clone();
     if !drawing.silo.is_flat() {
         said.push(format!("outlet {} mm", drawing.silo.outlet_width()));
@@ -494,8 +85,7 @@ fn unsaid(drawing: &Drawing) -> Vec<String> {
     }
     let parts = if drawing.silo.headroom > 0 { "V - g + H" } else { "V + H" };
     said.push(format!("height h = {parts} = {} mm", drawing.silo.height()));
-    let unsaid = said.iter().filter(|said| !page.contains(&bare(said)));
-    unsaid.map(|said| format!("does not say {said}")).collect()
+    drawing.page.unsaid(&said)
 }
 
 /// The least and the greatest.
@@ -651,33 +241,6 @@ fn the_angle_and_the_page() {
     assert!(drawing.page.texts.iter().any(|text| text.words == "α 60.5°"));
     assert!(drawing.page.shapes("patch").any(|line| line.len() > 2), "no curve of p_p");
     assert!(drawing.page.style.contains("@page { size: A4 landscape; margin: 0 }"));
-}
-
-/// A silo of any size that a sheet may have, most of them accepted.
-fn any_silo(random: &mut Random) -> String {
-    let width = random.of(&[500, 700, 1500, 4000, 9000, 20_000, 50_000]) as usize;
-    let strakes: Vec<String> =
-        (0..1 + random.below(24)).map(|_| random.of(&[200, 400, 1200, 3000]).to_string()).collect();
-    let run = (1 + random.below(width / 2 - 1)) / random.of(&[1, 1, 4, 100]);
-    let steeper = random.of(&[100, 5000, 20_000]);
-    let height = run / 2 + 1 + random.below(steeper);
-    let mut millimetres = |most: usize| format!("{} mm", random.below(most + 1) * random.below(2));
-    let (filling, outlet) = (millimetres(width / 4), millimetres(width / 4));
-    let headroom = millimetres(200 * strakes.len());
-    let lines = [
-        ("headroom", headroom),
-        ("factor", random.of(&["1.40", ""]).to_string()),
-        ("diameter", format!("{width} mm")),
-        ("strakes", format!("{} mm", strakes.join(", "))),
-        ("filling eccentricity", filling),
-        ("outlet eccentricity", outlet),
-        ("hopper height", format!("{} mm", height.min(25_000))),
-        ("hopper run", format!("{} mm", run.max(1))),
-        ("depths", "0 mm".to_string()),
-    ];
-    let lines = lines.each_ref().map(|(name, value)| (*name, value.as_str()));
-    let flat = if random.below(3) == 0 { &FLAT[..] } else { &[] };
-    text_with(&[&lines[..], flat].concat())
 }
 
 #[test]

@@ -117,6 +117,7 @@ fn shown(arguments: &[&str], status: i32) -> Vec<u8> {
 }
 
 const READ: &str = "this is the file that is read";
+const PATCH: [&str; 4] = ["patch", "--depth", "8", "m"];
 
 #[test]
 fn the_file_that_is_read_stays() {
@@ -131,10 +132,10 @@ fn the_file_that_is_read_stays() {
         ["w.silo", "./w.silo", "sub/../w.silo", absolute, "link.silo", "link.svg", "hard.svg"];
     for read in ["w.silo", "link.silo", "hard.svg"] {
         for name in names {
-            for command in ["draw", "sheet", "loads", "page"] {
-                let arguments = [command, read, "-o", name, "--force"];
+            for command in [&["draw"][..], &["sheet"], &["loads"], &["page"], &PATCH] {
+                let arguments = [command, &[read, "-o", name]].concat();
                 folder.refuses(&mut folder.silo(&arguments), READ);
-                folder.refuses(&mut folder.silo(&arguments[..4]), READ);
+                folder.refuses(folder.silo(&arguments).arg("--force"), READ);
             }
         }
     }
@@ -170,7 +171,7 @@ fn nothing_is_printed_into_the_file_that_is_read() {
 }
 
 /// A command, the ending of what it writes, what that is, in a word, and whether the tool replaces one.
-const WRITTEN: [(&[&str], &str, &str, &str, bool); 13] = [
+const WRITTEN: [(&[&str], &str, &str, &str, bool); 17] = [
     (&["draw", "w.silo"], "svg", "a drawing", "drawing", true),
     (&["draw", "w.silo", "--kpa"], "svg", "a drawing", "drawing", true),
     (&["sheet", "w.silo"], "sheet", "a sheet", "sheet", true),
@@ -182,6 +183,16 @@ const WRITTEN: [(&[&str], &str, &str, &str, bool); 13] = [
     (&["loads", "w.silo", "--kpa"], "txt", "a table of loads", "table", true),
     (&["page", "w.silo"], "page", "a load page", "page", true),
     (&["page", "read.sheet"], "txt", "a load page", "page", true),
+    (&["patch", "w.silo", "--depth", "8 m"], "txt", "a table of a patch", "table", true),
+    (&["patch", "w.silo", "--depth", "0", "--all"], "txt", "a table of a patch", "table", true),
+    (
+        &["patch", "w.silo", "--depth", "8 m", "--csv-semicolon", "--kpa"],
+        "csv",
+        "CSV of a patch",
+        "CSV",
+        true,
+    ),
+    (&["draw", "w.silo", "--depth", "8 m"], "svg", "a drawing of a patch", "drawing", true),
     (&["catalogue"], "txt", "the catalogue", "catalogue", true),
     (&["catalogue", "--csv-semicolon"], "csv", "the catalogue's CSV", "CSV", true),
 ];
@@ -232,6 +243,7 @@ fn contents() -> Vec<(&'static str, Vec<u8>)> {
     let silo = ["samples/wheat-tower.silo"];
     let of = |command: &str, more: &[&str]| printed(&[&[command], &silo[..], more].concat());
     let csv = of("loads", &["--csv"]);
+    let patch = |more: &[&str]| of("patch", &[&["--depth", "8 m"], more].concat());
     let other = "something other than ";
     vec![
         ("a drawing", of("draw", &["-o", "-"])),
@@ -247,6 +259,9 @@ fn contents() -> Vec<(&'static str, Vec<u8>)> {
         ("a table of loads", b"w.silo\n\n 1 2\n\nsilo 1.0.0, ENV 1991-4:1995\n\n".to_vec()),
         ("a load page", of("page", &[])),
         ("a load page", [&PAGE_HEADING[..], b"\r\nprinted for M. Dupont\r\n"].concat()),
+        ("a table of a patch", patch(&[])),
+        ("CSV of a patch", patch(&["--csv"])),
+        ("a drawing of a patch", of("draw", &["--depth", "0", "-o", "-"])),
         ("a silo's text", sample("wheat-tower.silo")),
         ("a silo's text", b"# mine\r\nD_x = 1\r\n Diameter=4 m\r\n".to_vec()),
         (other, b"<svg><text>our mark</text></svg>".to_vec()),

@@ -51,7 +51,7 @@ const SAMPLES: [(&str, i32); 8] = [
 ];
 
 /// Outputs of the samples that are not tables: where they are stored, and the command.
-const OUTPUTS: [(&str, &[&str]); 16] = [
+const OUTPUTS: [(&str, &[&str]); 20] = [
     ("samples/wheat-tower.csv", &["loads", "samples/wheat-tower.silo", "--csv"]),
     ("samples/barley-bin.csv", &["loads", "--csv", "samples/barley-bin.silo"]),
     ("samples/corrugated-bin.csv", &["loads", CORRUGATED, "--csv-semicolon", "--kpa"]),
@@ -63,6 +63,10 @@ const OUTPUTS: [(&str, &[&str]); 16] = [
     ("samples/headroom-bin.json", &["loads", "samples/headroom-bin.silo", "--json"]),
     ("samples/blank-factor.csv", &["loads", "samples/blank-factor.silo", "--csv"]),
     ("samples/blank-factor.json", &["loads", "samples/blank-factor.silo", "--json"]),
+    ("samples/wheat-tower.patch", &["patch", "samples/wheat-tower.silo", "--depth", "8", "m"]),
+    ("samples/headroom-bin.patch", &["patch", HEADROOM, "--depth", "8", "m", "--kpa"]),
+    ("samples/wheat-tower-patch.csv", &["patch", WHEAT, "--depth", "8 m", "--all", "--csv"]),
+    ("docs/wheat-tower-patch.svg", &["draw", WHEAT, "--depth", "8", "m", "-o", "-"]),
     ("docs/wheat-tower.svg", &["draw", "samples/wheat-tower.silo", "-o", "-"]),
     ("docs/barley-bin.svg", &["draw", "samples/barley-bin.silo", "-o", "-"]),
     ("docs/corrugated-bin.svg", &["draw", CORRUGATED, "--kpa", "-o", "-"]),
@@ -70,6 +74,8 @@ const OUTPUTS: [(&str, &[&str]); 16] = [
     ("docs/headroom-bin.svg", &["draw", "samples/headroom-bin.silo", "-o", "-"]),
 ];
 const CORRUGATED: &str = "samples/corrugated-bin.silo";
+const HEADROOM: &str = "samples/headroom-bin.silo";
+const WHEAT: &str = "samples/wheat-tower.silo";
 
 #[test]
 fn samples_as_stored() {
@@ -94,7 +100,7 @@ fn samples_as_stored() {
 
 #[test]
 fn pages_as_stored() {
-    let pages: [(&[&str], i32); 52] = [
+    let pages: [(&[&str], i32); 78] = [
         (&["--version"], 0),
         (&["--help"], 0),
         (&["catalogue"], 0),
@@ -134,6 +140,32 @@ fn pages_as_stored() {
         (&["page", "samples/cement.silo", "--kpa"], 2),
         (&["page", "samples/cement.silo", "--force"], 2),
         (&["page", "samples/cement.silo", "-o", "samples/cement.expected"], 2),
+        (&["patch"], 2),
+        (&["patch", "samples/cement.silo"], 2),
+        (&["patch", "--depth", "8", "m"], 2),
+        (&["patch", "samples/cement.silo", "--depth"], 2),
+        (&["patch", "samples/cement.silo", "--depth", ""], 2),
+        (&["patch", "samples/cement.silo", "--depth", "--csv"], 2),
+        (&["patch", "samples/cement.silo", "--depth", "deep"], 2),
+        (&["patch", "samples/cement.silo", "--depth", "8"], 2),
+        (&["patch", "--depth", "8", "samples/cement.silo"], 2),
+        (&["patch", "samples/cement.silo", "--depth", "8", "ft"], 2),
+        (&["patch", "samples/cement.silo", "--depth", "8 ft"], 2),
+        (&["patch", "samples/cement.silo", "--depth", "8,5", "m"], 2),
+        (&["patch", "samples/cement.silo", "--depth", "-8", "m"], 2),
+        (&["patch", "samples/cement.silo", "--depth", "8.0005", "m"], 2),
+        (&["patch", "samples/cement.silo", "--depth", "4294967296", "mm"], 2),
+        (&["patch", "samples/cement.silo", "--depth", "8 m", "mm"], 2),
+        (&["patch", "samples/cement.silo", "--depth", "8 m", "--depth", "9 m"], 2),
+        (&["patch", "samples/cement.silo", "--depth=8m"], 2),
+        (&["patch", "samples/cement.silo", "--depth", "8", "m", "--json"], 2),
+        (&["patch", "samples/cement.silo", "--depth", "8", "m", "-o", "patch.svg"], 2),
+        (&["patch", "samples/cement.silo", "--depth", "16801", "mm"], 1),
+        (&["patch", "samples/barley-bin.silo", "--depth", "8", "m"], 1),
+        (&["draw", "samples/barley-bin.silo", "--depth", "8 m", "-o", "patch.svg"], 1),
+        (&["draw", "samples/cement.silo", "--depth", "8 m", "--all", "-o", "patch.svg"], 2),
+        (&["loads", "samples/cement.silo", "--depth", "8", "m"], 2),
+        (&["loads", "samples/cement.silo", "--all"], 2),
         (&["draw", "samples/cement.silo"], 2),
         (&["draw", "samples/cement.silo", "-o"], 2),
         (&["draw", "samples/cement.silo", "-o", ""], 2),
@@ -160,6 +192,31 @@ fn pages_as_stored() {
 fn help_fits_a_terminal() {
     let help = String::from_utf8(written(&["--help"], 0)).expect("ASCII");
     assert!(help.lines().all(|line| line.len() <= 80), "{help}");
+}
+
+/// A depth in one word or two, before or after the file, in any unit.
+#[test]
+fn a_depth_in_every_form() {
+    let forms: [&[&str]; 8] = [
+        &["8", "m"],
+        &["8 m"],
+        &["8m"],
+        &["8000", "mm"],
+        &["8000mm"],
+        &["800", "cm"],
+        &["8.0", "M"],
+        &[" 8 m "],
+    ];
+    for form in forms {
+        for arguments in [
+            [&["patch", WHEAT, "--depth"], form].concat(),
+            [&["patch", "--depth"], form, &[WHEAT]].concat(),
+        ] {
+            assert_eq!(written(&arguments, 0), sample("wheat-tower.patch"), "{arguments:?}");
+        }
+    }
+    let at_brim = written(&["patch", WHEAT, "--depth", "0", "mm"], 0);
+    assert_eq!(written(&["patch", "--depth", "0", WHEAT], 0), at_brim);
 }
 
 /// Text to bytes to text and back, through files; bytes give the loads and the page that the text gives.
@@ -221,8 +278,13 @@ fn names_of_any_bytes() {
 #[test]
 fn nothing_is_written_for_a_refused_drawing() {
     let file = scratch("refused.svg");
-    written(&["draw", "samples/blank-friction.silo", "-o", file.to_str().expect("UTF-8")], 1);
-    assert!(!file.exists());
+    let output = ["-o", file.to_str().expect("UTF-8")];
+    for drawn in
+        [&["samples/blank-friction.silo"][..], &["samples/flat-store.silo", "--depth", "2 m"]]
+    {
+        written(&[&["draw"], drawn, &output].concat(), 1);
+        assert!(!file.exists());
+    }
 }
 
 #[test]

@@ -269,7 +269,7 @@ fn refusals_of_a_host() {
     let due = library::answers_length(&sheet).expect("accepted");
     for length in [0, due - 1, due + 1] {
         let mut answers = vec![7; length];
-        assert_eq!(library::fill_loads(&sheet, &mut answers), Err(Refusal::ANSWERS_LENGTH));
+        assert_eq!(library::fill_loads(&sheet, &mut answers), Err(Refusal::LIST_LENGTH));
         assert!(answers.iter().all(|answer| *answer == 7));
     }
     let due = library::page_length(&sheet).expect("accepted");
@@ -302,7 +302,7 @@ fn a_page_is_refused_for_its_sheet_first() {
 #[test]
 fn every_refusal_has_words() {
     let words: String =
-        (0..=19).map(|number| format!("{number}: {}\n", Refusal(number).meaning())).collect();
+        (0..=20).map(|number| format!("{number}: {}\n", Refusal(number).meaning())).collect();
     stored("host/tests/golden/meanings.txt", words.as_bytes());
 }
 

@@ -23,6 +23,10 @@ pub trait Library {
     unsafe fn page(&self, sheet: *const [u8], page: *mut [u8]) -> u32;
 
     /// # Safety
+    /// Sheet and list are lent whole and do not overlap.
+    unsafe fn shell_patch(&self, sheet: *const [u8], depth: u32, reply: *mut [i32]) -> u32;
+
+    /// # Safety
     /// The buffer is lent whole.
     unsafe fn catalogue(&self, row: u32, wall: u32, record: *mut [u8]) -> u32;
 
@@ -61,6 +65,7 @@ pub fn expect(holds: bool, sheet: &[u8], what: impl FnOnce() -> String) -> Outco
 
 /// What lent memory holds before a call, and its canaries always.
 pub const UNTOUCHED: u32 = 0xA5C3_5A3C;
+pub const UNTOUCHED_SIGNED: i32 = UNTOUCHED as i32;
 pub const UNTOUCHED_BYTE: u8 = 0xA5;
 
 /// A library, and the number of canaries on each side of what it is lent: with none, each piece of memory is allocated at exactly its
@@ -135,6 +140,19 @@ impl Calls<'_> {
         self.fill(sheet, UNTOUCHED_BYTE, length, |sheet, page| {
             // SAFETY: both are lent whole, from memory of their own.
             unsafe { self.library.page(sheet, page) }
+        })
+    }
+
+    /// The shell patch call's answer, and the reply list of that length after it.
+    pub fn shell_patch(
+        &self,
+        sheet: &[u8],
+        depth: u32,
+        length: usize,
+    ) -> Result<(u32, Vec<i32>), Difference> {
+        self.fill(sheet, UNTOUCHED_SIGNED, length, |sheet, reply| {
+            // SAFETY: both are lent whole, from memory of their own.
+            unsafe { self.library.shell_patch(sheet, depth, reply) }
         })
     }
 

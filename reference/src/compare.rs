@@ -1,11 +1,13 @@
-//! The comparison of a library with document 01 and with C-11, C-13, C-14 and C-15 of document 02, for sheets of any kind.
+//! The comparison of a library with document 01 and with C-11 and C-13 to C-16 of document 02, for sheets of any kind.
 //!
 //! For an accepted sheet: filling pressures and P_w inside their bands, each load made from filling equal to its formula over the
-//! filling pressures and inside its allowance, all at the load depth, nothing falling with depth; the page of these numbers. For a refused
-//! one: its number from every call, and list and buffer as they were. For a sheet of six records, accepted or not: the same with a headroom
-//! of 0. For every sheet made blank, accepted or not: the same with 155 and with 135 written in.
+//! filling pressures and inside its allowance, all at the load depth, nothing falling with depth; the page of these numbers, and the patch
+//! round its shell at depths given with it. For a refused one: its number from every call, and lists and buffer as they were. For a sheet of
+//! six records, accepted or not: the same with a headroom of 0. For every sheet made blank, accepted or not: the same with 155 and with 135
+//! written in.
 
 mod pages;
+mod shell;
 
 use crate::calls::{expect, Calls, Difference, Library, Outcome, UNTOUCHED, UNTOUCHED_BYTE};
 use crate::formulas::{self, Discharge, Filling};
@@ -13,17 +15,18 @@ use crate::fraction::{fraction, least, whole, Fraction, Real};
 use crate::sheet::{parse, records, with_factor, Silo};
 use crate::{catalogue, governing, page};
 use pages::{BUFFERS, DIGITS, EACH, EXACT};
+use shell::{ANSWERS, GIVEN, INSIDE};
 use std::fmt;
 use std::ops::Range;
 
-/// The refusals of the four calls that take a sheet, in their order; 13 is retired.
+/// The refusals of the load and page calls and of their length calls, in their order; 13 is retired.
 pub const REFUSALS: [usize; 15] = [1, 2, 3, 4, 5, 6, 7, 8, 9, 10, 11, 17, 12, 14, 18];
 
 /// Those of a list or buffer, lent with an accepted sheet.
 const OF_LENGTH: [usize; 2] = [14, 18];
 
 /// Room for a count by the number of a refusal.
-const NUMBERS: usize = 19;
+const NUMBERS: usize = 20;
 
 /// Kinds of silos by h/d_c: the three of the discharge factors, their limits apart.
 const SHAPES: [&str; 5] = ["below 1", "1", "between 1 and 1.5", "1.5", "above 1.5"];
@@ -76,6 +79,9 @@ pub struct Tally {
     pub refused: [u64; NUMBERS],
     /// Page calls by the number of the sheet's refusal, 0 for an accepted one, and by their buffer.
     pages: [[u64; BUFFERS.len()]; NUMBERS],
+    /// Shell patch calls by the number of the sheet's refusal, 0 for an accepted one, and by their answer; those with a reply by their depth.
+    patches: [[u64; NUMBERS]; NUMBERS],
+    replies: [u64; GIVEN.len()],
     /// Numbers of pages by their digits.
     pub digits: [u64; DIGITS + 1],
     /// Rows, and those on sheets with a headroom above 0 by their place.
@@ -89,6 +95,8 @@ pub struct Tally {
     pub unlike_pairs: u64,
     pub unlike_headrooms: u64,
     pub blank_pairs: u64,
+    /// Pairs of circles, each in each order, whose patches at one load depth have an order.
+    pub patch_pairs: u64,
     /// Silos with a headroom above 0 beside one that is level with its brim.
     pub levels: u64,
     /// Filling pressures, and those of them that are less than 1 + 1/64 above.
@@ -108,8 +116,8 @@ impl Tally {
         self.accepted() + self.refused.iter().sum::<u64>() - of_length
     }
 
-    /// The kinds that accepted sheets, their rows and their page calls are told apart by, with the count of each.
-    fn kinds(&self) -> [(&str, Vec<(&str, u64)>); 6] {
+    /// The kinds that accepted sheets, their rows, page calls and shell patch calls are told apart by, with the count of each.
+    fn kinds(&self) -> [(&str, Vec<(&str, u64)>); 8] {
         let counted = |names: &[&'static str], counts: &[u64]| {
             names.iter().copied().zip(counts.iter().copied()).collect()
         };
@@ -120,6 +128,14 @@ impl Tally {
             ("accepted and made blank, beside 135", counted(&BESIDE, &self.beside)),
             ("rows under a headroom", counted(&PLACES, &self.places)),
             ("page calls for accepted sheets, by buffer", self.page_calls(0)),
+            (
+                "shell patch calls for accepted sheets, by answer",
+                ANSWERS.iter().map(|(name, answer)| (*name, self.patches[0][*answer])).collect(),
+            ),
+            (
+                "replies, by depth",
+                GIVEN.iter().map(|(name, _)| *name).zip(self.replies).take(INSIDE).collect(),
+            ),
         ]
     }
 
@@ -142,6 +158,8 @@ impl fmt::Display for Tally {
         writeln!(f, "refused and made blank, beside 135 and 155: {blank_refused}")?;
         let refused_pages: u64 = self.pages[1..].iter().flatten().sum();
         writeln!(f, "page calls for refused sheets: {refused_pages}")?;
+        let refused_patches: u64 = self.patches[1..].iter().flatten().sum();
+        writeln!(f, "shell patch calls for refused sheets: {refused_patches}")?;
         let digits: Vec<_> = (1..=DIGITS).map(|n| format!("{n}: {}", self.digits[n])).collect();
         writeln!(f, "numbers of pages, by digits: {}", digits.join(", "))?;
         writeln!(
@@ -170,19 +188,20 @@ type AtDepth = (u64, Row);
 
 pub struct Comparison<'a> {
     pub calls: Calls<'a>,
-    /// The page calls are made too.
-    pub with_pages: bool,
+    /// The load call and its length call are made, and no page call or shell patch call.
+    pub loads_alone: bool,
     pub tally: Tally,
 }
 
 impl<'a> Comparison<'a> {
     pub fn with(library: &'a dyn Library) -> Comparison<'a> {
         let calls = Calls { library, canaries: 8 };
-        Comparison { calls, with_pages: true, tally: Tally::default() }
+        Comparison { calls, loads_alone: false, tally: Tally::default() }
     }
 
     /// Prints what was compared; an accepted sheet of each kind and each of these refusals, also with a blank factor, have to be among it,
-    /// and a page call with each buffer for an accepted sheet and for each of these refusals.
+    /// a page call with each buffer for an accepted sheet and for each of these refusals, and a shell patch call with each, also with 11 for
+    /// the given depth in the place of 17 and 12.
     pub fn report(&self, refusals: impl IntoIterator<Item = usize>) {
         println!("{}", self.tally);
         for (kind, counts) in self.tally.kinds() {
@@ -200,6 +219,10 @@ impl<'a> Comparison<'a> {
             for (buffer, count) in self.tally.page_calls(number) {
                 assert!(count > 0, "refusal {number}: no page buffer is {buffer}");
             }
+            let patches = self.tally.patches[number];
+            assert!(patches[number] > 0, "refusal {number}: no shell patch call");
+            let first = ![17, 12].contains(&number) || patches[11] > 0;
+            assert!(first, "refusal {number}: no given depth is over V");
         }
     }
 
@@ -230,7 +253,8 @@ impl<'a> Comparison<'a> {
         let told = self.calls.answers_length(bytes)?;
         expect(told == refusal, bytes, || format!("answers_length {told}, refusal {refusal} due"))?;
         lengths.iter().try_for_each(|length| self.untouched(bytes, refusal, *length))?;
-        self.pages(bytes, Err(refusal), EACH)
+        self.pages(bytes, Err(refusal), EACH)?;
+        self.patches(bytes, refusal)
     }
 
     /// A refused sheet with a whole product record, its factor made blank: still refused, and alike with 135 and 155, since each of these
@@ -266,7 +290,7 @@ impl<'a> Comparison<'a> {
             })?;
         }
         self.tally.beside[usize::from(blank != soft)] += 1;
-        Ok(())
+        self.blank_patches(&silos)
     }
 
     /// Six records, accepted or not, and the same with a headroom of 0: all calls answer alike, and leave alike lists and buffers.
@@ -282,6 +306,7 @@ impl<'a> Comparison<'a> {
             expect(alike, &seven, || format!("list of {length} differs with a headroom of 0"))?;
         }
         self.same_pages(&six, &seven, page::length(silo))?;
+        self.same_patches(&six, &seven, silo.foot())?;
         self.tally.zero_headrooms += 1;
         Ok(())
     }
@@ -347,6 +372,7 @@ impl<'a> Comparison<'a> {
         }
         let all = at_load_depths(silo, [listed, edges].concat());
         self.never_falls(&bytes, all, &[1, 2, 3, 5, 6, 7])?;
+        self.patches(&bytes, 0)?;
         self.zero_headroom(silo, &[list.len(), list.len() + 1])?;
         self.blank_factor(silo)?;
         self.tally.shapes[shape(silo)] += 1;
@@ -362,10 +388,11 @@ impl<'a> Comparison<'a> {
     }
 
     /// Two accepted sheets with equal first two records: the filling pressures, which section, product and load depth alone decide. The
-    /// discharge loads rest on h too, in which the sheets may differ.
+    /// discharge loads rest on h too, in which the sheets may differ; the patches have an order where their factors do.
     pub fn pair(&mut self, one: &Silo, other: &Silo) -> Outcome {
         let both = [self.listed(one)?, self.listed(other)?].concat();
         self.never_falls(&[one.sheet(), other.sheet()].concat(), both, &[1, 2, 3])?;
+        self.pair_patches(one, other)?;
         self.tally.pairs += 1;
         self.tally.unlike_pairs += u64::from(Discharge::of(one) != Discharge::of(other));
         self.tally.unlike_headrooms += u64::from(one.g() != other.g());
@@ -410,9 +437,9 @@ impl<'a> Comparison<'a> {
     fn row(&mut self, silo: &Silo, row: &Row, depth: u64, exact: &Filling) -> Outcome {
         let [z, p_hf, p_wf, _, line, p_he, p_we, p_p] = *row;
         let named = |column: usize| format!("{} at depth {depth}", COLUMNS[column]);
-        expect(z == depth, &silo.sheet(), || format!("z is {z} at depth {depth}"))?;
+        expect_of(z == depth, silo, || format!("z is {z} at depth {depth}"))?;
         let zeros = silo.load_depth(depth) > 0 || row[1..] == [0; 7];
-        expect(zeros, &silo.sheet(), || format!("load depth 0 has {row:?}"))?;
+        expect_of(zeros, silo, || format!("load depth 0 has {row:?}"))?;
         let pressures = [&exact.horizontal, &exact.friction, &exact.vertical];
         for (i, pressure) in pressures.into_iter().enumerate() {
             band(silo, &named(i + 1), row[i + 1], pressure, 2)?;
@@ -472,20 +499,28 @@ fn at_load_depths(silo: &Silo, rows: Vec<Row>) -> Vec<AtDepth> {
     rows.into_iter().map(|row| (silo.load_depth(row[0]), row)).collect()
 }
 
+/// What holds of a silo, whose sheet is written for a difference alone.
+fn expect_of(holds: bool, silo: &Silo, what: impl FnOnce() -> String) -> Outcome {
+    if holds {
+        return Ok(());
+    }
+    Err(Difference { what: what(), sheet: silo.sheet() })
+}
+
 /// A load is its formula over whole numbers, rounded up once.
 fn made(silo: &Silo, name: &str, load: u64, formula: &Fraction) -> Outcome {
-    expect(formula.rounds_up_to(load), &silo.sheet(), || {
+    expect_of(formula.rounds_up_to(load), silo, || {
         format!("{name} is {load}, {} by its formula", formula.up())
     })
 }
 
 /// A load is at or above its exact value, by less than its allowance.
 fn band(silo: &Silo, name: &str, load: u64, exact: &Real, allowance: u64) -> Outcome {
-    expect(exact.is_at_most(&whole(load)), &silo.sheet(), || {
+    expect_of(exact.is_at_most(&whole(load)), silo, || {
         format!("{name} is {load}, below its exact value")
     })?;
     let above = exact.plus(&Real::exactly(whole(allowance)));
-    expect(!above.is_at_most(&whole(load)), &silo.sheet(), || {
+    expect_of(!above.is_at_most(&whole(load)), silo, || {
         format!("{name} is {load}, {allowance} or more above its exact value")
     })
 }
@@ -496,9 +531,7 @@ fn judge_bottom(silo: &Silo, bottom: &[u64], p_vf: u64, fillings: &[Filling]) ->
     if silo.hopper_height == 0 {
         made(silo, "floor", bottom[0], &whole(p_vf).times(&fraction(12, 10)))?;
         band(silo, "floor", bottom[0], &exact.times(&fraction(12, 10)), 4)?;
-        return expect(bottom[1..] == [0; 9], &silo.sheet(), || {
-            "a flat floor has nine zeros".into()
-        });
+        return expect_of(bottom[1..] == [0; 9], silo, || "a flat floor has nine zeros".into());
     }
     let (n3, exact_n3) = (whole_n3(silo), formulas::n3(silo));
     let friction = formulas::hopper_friction(silo);

@@ -1,6 +1,6 @@
-//! The loads of document 01, squat bins as in C-11 of document 02, headroom as in C-13 and a blank factor as in C-14, as exact numbers:
-//! lengths in metres, hundredths as plain ratios, nothing rounded. A depth z is the sheet's own; the loads there are those at its load
-//! depth.
+//! The loads of document 01, squat bins as in C-11 of document 02, headroom as in C-13, a blank factor as in C-14 and the force of the
+//! patch as in C-16, as exact numbers: lengths in metres, hundredths as plain ratios, nothing rounded. A depth z is the sheet's own; the
+//! loads there are those at its load depth.
 
 use crate::exponential::exponential;
 use crate::fraction::{fraction, whole, Fraction, Real};
@@ -132,6 +132,13 @@ impl Discharge {
 pub fn patch(silo: &Silo) -> Fraction {
     let e = silo.e_i.max(silo.e_o);
     fraction(4 * e, silo.d_c()).plus(&whole(1)).times(&fraction(2, 10))
+}
+
+/// (5.12), in N: π/2·s·d_c·p_p with s = 0.2·d_c and 355/113 for π.
+pub fn patch_force(silo: &Silo, p_p: u64) -> Fraction {
+    let d_c = metres(whole(silo.d_c()));
+    let s = d_c.times(&fraction(2, 10));
+    fraction(355, 113).over(&whole(2)).times(&s).times(&d_c).times(&whole(p_p))
 }
 
 /// 1.15·μ.

@@ -106,6 +106,10 @@ impl Real {
         Real { low: self.low.times(factor), high: self.high.times(factor) }
     }
 
+    pub fn product(&self, other: &Real) -> Real {
+        Real { low: self.low.times(&other.low), high: self.high.times(&other.high) }
+    }
+
     /// The square root, to 2^-80, of a fraction below 2^92.
     pub fn square_root(of: &Fraction) -> Real {
         let scaled = |n: u128| Fraction { top: n.into(), bottom: (1 << 80).into() };

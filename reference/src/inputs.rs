@@ -21,6 +21,12 @@ impl Random {
         Random { state: seed, numbers: Numbers::Any }
     }
 
+    /// Those that go with some bytes (FNV-1a).
+    pub fn of(bytes: &[u8]) -> Random {
+        let mixed = |seed: u64, byte: &u8| (seed ^ u64::from(*byte)).wrapping_mul(0x100_0000_01B3);
+        Random::new(bytes.iter().fold(0xCBF2_9CE4_8422_2325, mixed))
+    }
+
     fn next(&mut self) -> u64 {
         self.state = self.state.wrapping_add(0x9E37_79B9_7F4A_7C15);
         let mut n = self.state;
@@ -49,7 +55,7 @@ impl Random {
         }
     }
 
-    fn pick<T: Clone>(&mut self, of: &[T]) -> T {
+    pub fn pick<T: Clone>(&mut self, of: &[T]) -> T {
         of[self.below(of.len() as u64) as usize].clone()
     }
 }

@@ -1,10 +1,11 @@
-//! A second implementation of document 01 and of C-11, C-13, C-14 and C-15 of document 02, written from their text: exact fractions in
-//! whole numbers of any size, e^-q enclosed by its series, every refusal and every load, the page; and its comparison with a library that
-//! offers the calls of `include/silo.h`.
+//! A second implementation of document 01 and of C-11 and C-13 to C-16 of document 02, written from their text: exact fractions in whole
+//! numbers of any size, e^-q and cosines enclosed by their series, every refusal and every load, the page, the patch round a shell; and its
+//! comparison with a library that offers the calls of `include/silo.h`.
 
 pub mod calls;
 pub mod catalogue;
 pub mod compare;
+pub mod cosine;
 pub mod exponential;
 pub mod formulas;
 pub mod fraction;
@@ -18,3 +19,4 @@ pub mod page;
 pub mod printer;
 pub mod runs;
 pub mod sheet;
+pub mod shell;

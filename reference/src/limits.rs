@@ -1,5 +1,5 @@
-//! Every limit of document 01, and of C-11, C-13, C-14 and C-15 of document 02: sheets with the value at it, below it and above it, each
-//! with the number due; 0 is acceptance.
+//! Every limit of document 01, and of C-11 and C-13 to C-16 of document 02: sheets with the value at it, below it and above it, each with
+//! the number due; 0 is acceptance.
 
 use crate::inputs::{equal_strakes, sample};
 use crate::sheet::{record, Silo};
@@ -108,7 +108,8 @@ pub fn sheets() -> Vec<Due> {
         headrooms(),
         heights(),
     ];
-    let accepted = [factors(), lowest(), pages()].concat().into_iter().map(|silo| (silo, 0));
+    let accepted =
+        [factors(), lowest(), pages(), patches()].concat().into_iter().map(|silo| (silo, 0));
     let silos = values.concat().into_iter().chain(whole_loads()).chain(accepted);
     let sheets = silos.map(|(silo, due)| (silo.sheet(), due));
     [cut_or_extended(), kinds(), lengths()].concat().into_iter().chain(sheets).collect()
@@ -361,6 +362,25 @@ pub fn pages() -> Vec<Silo> {
         }
     }
     silos
+}
+
+/// The greatest patch that there is round a shell, at many depths, where a billionth in a cosine counts most; and the widest square.
+pub fn patches() -> Vec<Silo> {
+    let greatest = Silo {
+        section: vec![50_000],
+        weight: 30_000,
+        ratio: 100,
+        friction: 10,
+        factor: 200,
+        e_o: 12_500,
+        hopper_height: 25_000,
+        run: 24_999,
+        strakes: vec![3_000; 24],
+        ..sample()
+    };
+    let square = Silo { section: vec![50_000; 2], ..greatest.clone() };
+    let depths = (0..64).map(|i| vec![greatest.foot() - 100 * i]);
+    depths.map(|depths| Silo { depths, ..greatest.clone() }).chain([square]).collect()
 }
 
 /// No rule's limit but a rounding's: 3·R·γ·1.15·Ks·sin²α is a whole number, 1,725 for each 1,000 N/m³, and so is 1.0·p_hf.

@@ -27,6 +27,14 @@ impl Library for Linked {
         unsafe { silo_sys::silo_page(sheet.cast(), sheet_len, page.cast(), page_len) }
     }
 
+    unsafe fn shell_patch(&self, sheet: *const [u8], depth: u32, reply: *mut [i32]) -> u32 {
+        let (sheet_len, reply_len) = (sheet.len(), reply.len());
+        // SAFETY: each pointer goes with its own length, and the caller lends both whole.
+        unsafe {
+            silo_sys::silo_shell_patch(sheet.cast(), sheet_len, depth, reply.cast(), reply_len)
+        }
+    }
+
     unsafe fn catalogue(&self, row: u32, wall: u32, record: *mut [u8]) -> u32 {
         // SAFETY: the pointer goes with its own length, and the caller lends the buffer whole.
         unsafe { silo_sys::silo_catalogue(row, wall, record.cast(), record.len()) }

@@ -1,4 +1,5 @@
-//! Sheets that break two rules at once: the first one in the order of document 01, with 17 of C-13 between 11 and 12, is the refusal.
+//! Sheets that break two rules at once: the first one in the order of document 01, with 17 of C-13 between 11 and 12, is the refusal. Of the
+//! shell patch call a rectangle breaks one more, as do depths over V and other lists, which are given with every sheet.
 
 use crate::inputs::sample;
 use crate::limits::Due;
@@ -10,7 +11,7 @@ type Damage = fn(&mut Vec<u8>, usize);
 /// Ways to break each rule from 6 to 12, in their order, that leave the others as they are and can be joined with any. The hopper alone is
 /// too high for 12, whatever the headroom.
 const VALUES: [(u64, Break); 10] = [
-    (6, |silo| silo.section.push(50_001)),
+    (6, |silo| silo.section = vec![silo.section[0], 50_001]),
     (7, |silo| silo.weight = 999),
     (7, |silo| silo.factor = 99),
     (8, |silo| silo.e_o = u32::MAX.into()),
@@ -33,13 +34,13 @@ const RECORD: [(u64, Damage); 4] = [
     (4, |sheet, at| sheet[at] += 1),
 ];
 
-/// Silos of 9 m under several widths: slender, at h = 1.5·d_c, squat, at h = d_c and below it; level with the brim and under a headroom;
-/// with C0 blank and written. No rule's place is taken by the shape or by the factor.
+/// Silos of 9 m under several widths: slender, at h = 1.5·d_c, squat, at h = d_c and below it, and a rectangle; level with the brim and under
+/// a headroom; with C0 blank and written. No rule's place is taken by the shape or by the factor.
 fn silos() -> Vec<Silo> {
     let walls = [(None, 1_800), (Some(0), 1_800), (Some(1_000), 2_000)];
-    let of_width = |width: u64| {
+    let of_section = |section: Vec<u64>| {
         let written = walls.map(|(headroom, strake)| Silo {
-            section: vec![width],
+            section: section.clone(),
             strakes: vec![strake; 5],
             depths: vec![0, 1_000, 5_000],
             headroom,
@@ -47,7 +48,8 @@ fn silos() -> Vec<Silo> {
         });
         written.into_iter().flat_map(|silo| [Silo { factor: 0, ..silo.clone() }, silo])
     };
-    [5_000, 6_000, 8_000, 9_000, 20_000].into_iter().flat_map(of_width).collect()
+    let circles = [5_000, 6_000, 8_000, 9_000, 20_000].map(|width| vec![width]);
+    circles.into_iter().chain([vec![5_000, 6_000]]).flat_map(of_section).collect()
 }
 
 pub fn sheets() -> Vec<Due> {

@@ -5,8 +5,8 @@ use crate::catalogue::TABLE;
 use crate::compare::Comparison;
 use crate::inputs::{self, Random};
 use crate::limits::{self, Due};
-use crate::page;
 use crate::sheet::parse;
+use crate::{page, shell};
 use std::collections::BTreeMap;
 
 /// Lengths of the lists that a refused sheet is lent with: none, one, the sample's, and the longest there is.
@@ -22,11 +22,12 @@ pub fn table(comparison: &mut Comparison, sheets: &[Due]) -> Outcome {
     Ok(())
 }
 
-/// Page buffers of 2^16 bytes and more, short by the lowest two bytes of their length.
+/// Page buffers of 2^16 bytes and more, short by the lowest two bytes of their length, and reply lists that are as long as due by these.
 pub fn long_buffers(comparison: &mut Comparison) -> Outcome {
     limits::pages().iter().try_for_each(|silo| {
         let due = page::length(silo);
-        comparison.page_in(silo, &[1 << 16, (1 << 16) + due - 1, 1 << 20])
+        comparison.page_in(silo, &[1 << 16, (1 << 16) + due - 1, 1 << 20])?;
+        comparison.patch_in(silo, &[(1 << 16) + shell::LENGTH, 1 << 20])
     })
 }
 

@@ -1,5 +1,5 @@
 //! A sheet and the order in which it is refused, as document 01 writes them down, without 13, which C-11 of document 02 retires, and with
-//! the headroom and 17 of C-13.
+//! the headroom and 17 of C-13 and the depth given with it of C-16.
 
 /// What a sheet says; lengths in mm, weight in N/m³, ratio, friction and factor in hundredths.
 #[derive(Clone, Debug, PartialEq, Eq)]
@@ -98,11 +98,16 @@ fn numbers(payload: &[u8], width: usize) -> Vec<u64> {
 
 /// The silo, or the number of the refusal.
 pub fn parse(sheet: &[u8]) -> Result<Silo, u64> {
+    parse_given(sheet, 0)
+}
+
+/// The same where a depth is given with the sheet. Depth 0 is never over V.
+pub fn parse_given(sheet: &[u8], depth: u64) -> Result<Silo, u64> {
     if sheet.len() > 1024 {
         return Err(1);
     }
     let silo = records(sheet)?;
-    match judge(&silo) {
+    match judge(&silo, depth) {
         0 => Ok(silo),
         refusal => Err(refusal),
     }
@@ -164,9 +169,9 @@ pub fn with_factor(sheet: &[u8], factor: u16) -> Option<Vec<u8>> {
     before[product..].starts_with(&[10, 0, 3, 0]).then_some(written)
 }
 
-/// Refusals 6 to 11, 17 and 12 in this order, or 0.
-fn judge(silo: &Silo) -> u64 {
-    let d_c = silo.d_c();
+/// Refusals 6 to 11, 17 and 12 in this order, or 0; 11 of the given depth too.
+fn judge(silo: &Silo, given: u64) -> u64 {
+    let (d_c, foot) = (silo.d_c(), silo.foot());
     let (hopper, run) = (silo.hopper_height, silo.run);
     let steep = 1_000_000 * hopper >= 363_971 * run;
     let flat = hopper == 0 && run == 0;
@@ -183,10 +188,10 @@ fn judge(silo: &Silo) -> u64 {
         (10, silo.strakes.iter().any(|height| !(200..=3_000).contains(height))),
         (
             11,
-            silo.depths.iter().any(|depth| *depth > silo.foot())
+            silo.depths.iter().chain([&given]).any(|depth| *depth > foot)
                 || silo.depths.windows(2).any(|pair| pair[1] <= pair[0]),
         ),
-        (17, silo.g() >= silo.foot()),
+        (17, silo.g() >= foot),
         (12, silo.height() >= 10 * d_c),
     ];
     wrong.iter().find(|(_, holds)| *holds).map_or(0, |(refusal, _)| *refusal)

@@ -2,9 +2,10 @@
 //!
 //! Each calls the library and changes what it leaves or answers: the worthless versions of document 01, its traps, single numbers and
 //! limits one off, other discharge factors, a headroom or a blank factor that is read otherwise, rules in another order, pages of another
-//! layout, and memory that is written to where it must not be.
+//! layout, other patches round a shell, and memory that is written to where it must not be.
 
 mod pages;
+mod shells;
 
 use pages::{page, page_length, Pages, WritePage};
 use reference::calls::{Library, Outcome, UNTOUCHED};
@@ -16,6 +17,7 @@ use reference::inputs::Random;
 use reference::linked::Linked;
 use reference::sheet::{parse, records, Silo};
 use reference::{limits, order, runs};
+use shells::{shell_patch, Shell, WriteReply};
 use std::cmp::Ordering;
 
 type Loads = fn(&[u8], &mut [u32]) -> u32;
@@ -25,14 +27,16 @@ type Write = fn(*mut u8, *mut [u32]);
 type WriteLists = fn(*mut [u32], *mut [u32]);
 
 /// The calls, and what they write to besides: the load call the sheet from its first byte on, or the list; the page call likewise the
-/// sheet or the buffer; the governing call its lists.
+/// sheet or the buffer, the shell patch call the sheet or the list; the governing call its lists.
 struct Broken {
     loads: Loads,
     answers_length: Length,
     pages: Pages,
+    shell_patch: Shell,
     governing: Governing,
     write: Write,
     write_page: WritePage,
+    write_reply: WriteReply,
     write_lists: WriteLists,
 }
 
@@ -61,6 +65,13 @@ impl Library for Broken {
         answer
     }
 
+    unsafe fn shell_patch(&self, sheet: *const [u8], depth: u32, reply: *mut [i32]) -> u32 {
+        // SAFETY: both are lent whole and do not overlap, and the references end with the call.
+        let answer = unsafe { (self.shell_patch)(&*sheet, depth, &mut *reply) };
+        (self.write_reply)(sheet.cast_mut().cast(), reply);
+        answer
+    }
+
     unsafe fn catalogue(&self, row: u32, wall: u32, record: *mut [u8]) -> u32 {
         // SAFETY: the caller's own promise.
         unsafe { Linked.catalogue(row, wall, record) }
@@ -79,9 +90,11 @@ const WHOLE: Broken = Broken {
     loads,
     answers_length,
     pages: pages::WHOLE,
+    shell_patch,
     governing,
     write: |_, _| (),
     write_page: |_, _| (),
+    write_reply: |_, _| (),
     write_lists: |_, _| (),
 };
 
@@ -826,13 +839,13 @@ const WRITES: &[(&str, Write)] = &[
     }),
 ];
 
-/// The sheets of the other tests, as many of each random kind, without their pages: these would tell the library's own numbers from those
-/// of a broken load call.
+/// The sheets of the other tests, as many of each random kind, without their pages and patches round a shell: these would tell the library's
+/// own numbers from those of a broken load call.
 fn compared(library: &dyn Library) -> Outcome {
-    compared_by(Comparison { with_pages: false, ..Comparison::with(library) })
+    compared_by(Comparison { loads_alone: true, ..Comparison::with(library) })
 }
 
-fn compared_pages(library: &dyn Library) -> Outcome {
+fn compared_whole(library: &dyn Library) -> Outcome {
     compared_by(Comparison::with(library))
 }
 
@@ -888,7 +901,7 @@ fn broken_page_calls_are_found() {
     let calls = pages::CALLS.iter().map(|(name, page)| (name, Pages::Calls(*page, page_length)));
     let lengths = pages::LENGTHS.iter().map(|(name, length)| (name, Pages::Calls(page, *length)));
     for (name, pages) in laid.chain(calls).chain(lengths) {
-        is_found(name, compared_pages(&Broken { pages, ..WHOLE }));
+        is_found(name, compared_whole(&Broken { pages, ..WHOLE }));
     }
 }
 
@@ -898,6 +911,21 @@ fn the_same_layout_is_no_difference() {
     let mut comparison = Comparison::with(&same);
     runs::table(&mut comparison, &order::sheets()).unwrap();
     runs::long_buffers(&mut comparison).unwrap();
+}
+
+#[test]
+fn broken_shell_patch_calls_are_found() {
+    for (name, shell_patch) in [shells::REPLIES, shells::CALLS].concat() {
+        is_found(name, compared_whole(&Broken { shell_patch, ..WHOLE }));
+    }
+}
+
+#[test]
+fn the_same_reply_is_no_difference() {
+    let same = Broken { shell_patch: shells::SAME, ..WHOLE };
+    let mut comparison = Comparison::with(&same);
+    runs::table(&mut comparison, &order::sheets()).unwrap();
+    runs::accepted(&mut comparison, &mut Random::new(1_991), 100).unwrap();
 }
 
 #[test]
@@ -913,7 +941,10 @@ fn stray_writes_are_found() {
         is_found(name, compared(&Broken { write: *write, ..WHOLE }));
     }
     for (name, write_page) in pages::WRITES {
-        is_found(name, compared_pages(&Broken { write_page: *write_page, ..WHOLE }));
+        is_found(name, compared_whole(&Broken { write_page: *write_page, ..WHOLE }));
+    }
+    for (name, write_reply) in shells::WRITES {
+        is_found(name, compared_whole(&Broken { write_reply: *write_reply, ..WHOLE }));
     }
     for (name, write_lists) in LIST_WRITES {
         is_found(name, compared_governing(&Broken { write_lists: *write_lists, ..WHOLE }));

@@ -120,6 +120,7 @@ fn accepted_and_refused_as_written() {
         (under(50_000, 5_000), 12),
         (under(7_499, 2_000), 0),
         (under(7_500, 2_000), 0),
+        (with(|silo| silo.section = vec![5_000, 5_000]), 0),
         (with(|silo| silo.headroom = Some(9_999)), 0),
         (with(|silo| silo.headroom = Some(10_000)), 17),
         (with(|silo| silo.headroom = Some(5_000)), 0),

@@ -1,4 +1,4 @@
-//! Every limit of document 01, of C-11, C-13, C-14 and C-15 at, below and above, and sheets that break two rules at once.
+//! Every limit of document 01, of C-11 and C-13 to C-16 at, below and above, and sheets that break two rules at once.
 
 use reference::compare::{Comparison, REFUSALS};
 use reference::formulas::Discharge;

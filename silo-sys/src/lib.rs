@@ -24,6 +24,16 @@ extern "C" {
     /// 18, and the buffer is as it was.
     pub fn silo_page(sheet: *const u8, sheet_len: usize, page: *mut u8, page_len: usize) -> u32;
 
+    /// Fills the reply list of 361 numbers with the patch round the circular shell of a sheet, `depth` mm below the brim. Answers 0; or a
+    /// refusal, 1 to 12, 17, 19 or 14, and the list is as it was.
+    pub fn silo_shell_patch(
+        sheet: *const u8,
+        sheet_len: usize,
+        depth: u32,
+        reply: *mut i32,
+        reply_len: usize,
+    ) -> u32;
+
     /// Writes the product record of a row of table 7.1; wall 0 is steel, wall 1 concrete. Answers 0; or a refusal, 15 or 16, and the
     /// buffer is as it was.
     pub fn silo_catalogue(row: u32, wall: u32, record: *mut u8, record_len: usize) -> u32;

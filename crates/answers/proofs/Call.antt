@@ -1,6 +1,7 @@
 -- What the load call answers and leaves, in its three cases: refused for the sheet, refused for the list's length, filled.
 -- Assumes nothing.
 use Prim.Native.Nat.{ℕ}
+use mathlib.Core.Bool.{true}
 use mathlib.Core.Path.{_≡_, refl, sym, _∙_, subst}
 use mathlib.Core.List.{List, [], _∷_}
 use native.Mathlib.Omega.{arith}
@@ -22,7 +23,7 @@ use Rattle.answers.proofs.Demand.{claim}
 module _ (s : List ℕ) (n : ℕ) where
   pub loads-never-13 : first-unmet (loads-rules s n) ≡ 13 → ⊥
   unfolding loads-rules
-  loads-never-13 = call-never-13 s _ refl
+  loads-never-13 = call-never-13 true s _ refl
 
   pub refused-answer : (refusal-of s ≡ 0 → ⊥) → first-unmet (loads-rules s n) ≡ refusal-of s
   unfolding loads-rules

@@ -22,11 +22,11 @@ use Rattle.records.proofs.Alike.{SameBytes, SameRecord, u32-same}
 use Rattle.records.proofs.Written.{place-written, other-record, layout-written}
 use Rattle.description.specs.Silo.{product-sent, product-of, factor-read, depth-count, V-of, headroom-of, edge-of}
 use Rattle.description.proofs.Headroom.{headroom-read}
-use Rattle.sheet.specs.Refusal.{product-met, refusal-of}
+use Rattle.sheet.specs.Refusal.{product-met, sheet-rules-at, refusal-of}
 use Rattle.sheet.specs.Accepted.{Layout}
 use Rattle.sheet.proofs.Acceptance.{accepted}
 use Rattle.sheet.proofs.Described.{factor-in}
-use Rattle.sheet.proofs.Parts.{SameParts, means-same, same-parts, values-same, refusal-same}
+use Rattle.sheet.proofs.Parts.{SameParts, means-same, same-parts, SameRules, values-same, refusal-same, refusal-at-same}
 use Rattle.loads.specs.declared.Silo.{Silo}
 use Rattle.loads.specs.Load.{Load}
 use Rattle.loads.specs.Load.{number, bottom-numbers}
@@ -129,10 +129,15 @@ module _ (s : List ℕ) (b : Blank s) (c : ℕ) (least : 100 ≤ c) (most : c �
       rw (product-written s c (b .ten) (b .inside) least most, b .blank)
       (simp (ne-eqb c 0 (λ e. omega (arith, e, least)), le-leb 100 c least, le-leb c 200 most))
 
+  values-kept : Layout s → (z : ℕ) → SameRules s (with-factor c s) z
+  values-kept l = values-same s (with-factor c s) (parts-kept s c (b .ten) l) product-met-kept
+
   pub blank-refusal : refusal-of s ≡ refusal-of (with-factor c s)
-  blank-refusal =
-      refusal-same s (with-factor c s) (ap first-unmet (records-same s c (b .ten)))
-      (λ l. values-same s (with-factor c s) (parts-kept s c (b .ten) l) product-met-kept)
+  blank-refusal = refusal-same s (with-factor c s) (ap first-unmet (records-same s c (b .ten))) values-kept
+
+  -- with a depth z given beside the sheets
+  pub blank-refusal-at : (z : ℕ) → first-unmet (sheet-rules-at s z) ≡ first-unmet (sheet-rules-at (with-factor c s) z)
+  blank-refusal-at = refusal-at-same s (with-factor c s) (ap first-unmet (records-same s c (b .ten))) values-kept
 
 -- a blank factor is 155
 blank-factor : (s : List ℕ) → product-sent s .factor ≡ 0 → product-of s .factor ≡ 155

@@ -18,10 +18,10 @@ use Rattle.records.proofs.Alike.{SameRecord}
 use Rattle.records.proofs.Followed.{place-kept, record-kept, u32-behind, followed-passed, followed-refused}
 use Rattle.description.specs.Silo.{product-sent, product-of, depth-count, V-of, headroom-of}
 use Rattle.description.proofs.Headroom.{six-level, seventh-headroom}
-use Rattle.sheet.specs.Refusal.{product-met, value-rules, refusal-of}
+use Rattle.sheet.specs.Refusal.{product-met, sheet-rules-at, refusal-of}
 use Rattle.sheet.specs.Accepted.{Layout}
 use Rattle.sheet.proofs.Acceptance.{accepted}
-use Rattle.sheet.proofs.Parts.{SameParts, product-same, same-parts, values-same, refusal-same}
+use Rattle.sheet.proofs.Parts.{SameParts, product-same, same-parts, SameRules, values-same, refusal-same, refusal-at-same}
 use Rattle.loads.specs.Load.{Load}
 use Rattle.loads.specs.Load.{OfFilling, load-depth, number}
 use Rattle.loads.specs.Load.Load.{p-vf}
@@ -61,7 +61,7 @@ module _ (s : List ℕ) (six : place s 6 ≡ length s) where
     product-kept : product-sent s ≡ product-sent (s ++ level)
     product-kept = product-same s (s ++ level) l (kept 1 4 refl)
 
-    values-kept : value-rules s ≡ value-rules (s ++ level)
+    values-kept : (z : ℕ) → SameRules s (s ++ level) z
     values-kept = values-same s (s ++ level) parts-kept (ap product-met product-kept)
 
     silo-kept : silo-of s ≡ silo-of (s ++ level)
@@ -79,8 +79,15 @@ module _ (s : List ℕ) (six : place s 6 ≡ length s) where
         h ∙ sym (followed-passed s level six (omega arith) short h)
     records-by (no z) = sym (followed-refused s level six (omega arith) short (λ o. z (omega (arith, o))))
 
+    records-alike : first-unmet (layout-rules s) ≡ first-unmet (layout-rules (s ++ level))
+    records-alike = records-by (decLe (first-unmet (layout-rules s)) 0)
+
     pub level-refusal : refusal-of s ≡ refusal-of (s ++ level)
-    level-refusal = refusal-same s (s ++ level) (records-by (decLe (first-unmet (layout-rules s)) 0)) values-kept
+    level-refusal = refusal-same s (s ++ level) records-alike values-kept
+
+    -- with a depth z given beside the sheets
+    pub level-refusal-at : (z : ℕ) → first-unmet (sheet-rules-at s z) ≡ first-unmet (sheet-rules-at (s ++ level) z)
+    level-refusal-at = refusal-at-same s (s ++ level) records-alike values-kept
 
     pub level-silo : refusal-of s ≡ 0 → OneSilo s (s ++ level)
     level-silo h = let l = accepted s h .layout in record { parts = parts-kept l; silos = silo-kept l }

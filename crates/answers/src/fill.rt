@@ -78,7 +78,7 @@ fn fill_bottom(entries: &[u64; 3393], basis: Basis, list: &mut [u32], at: usize)
 }
 
 // What is worked out once for the silo described.
-fn described_basis(described: Described) -> Basis
+pub fn described_basis(described: Described) -> Basis
     requires { ⌜ Fits (silo-in described) ⌝ }
     ensures { λ r. ⌜ r ≡ basis-for (silo-in described) ⌝ }
 {

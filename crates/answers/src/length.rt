@@ -22,7 +22,7 @@ pub fn length_due(depths: usize, strakes: usize) -> usize
 pub fn answers_length(sheet: &[u8]) -> Length
     ensures { λ r. ⌜ r ≡ answers-length (now (sheet .entry)) ⌝ }
 {
-    let judged = sheet::examine(sheet);
+    let judged = sheet::examine(sheet, 0);
     let described = judged.described;
     Length::told(
         judged.refused,

@@ -9,7 +9,7 @@ pub mod length; // the call that tells its length
 pub fn loads(sheet: &[u8], answers: &mut [u32]) -> u32
     ensures { λ r. ⌜ Promise computed (now (sheet .entry)) (now (answers .entry)) r (now (answers .exit)) ⌝ }
 {
-    let judged = sheet::examine(sheet);
+    let judged = sheet::examine(sheet, 0);
     if judged.refused != 0 {
         return judged.refused;
     }

@@ -5,6 +5,7 @@ use native.Mathlib.Omega.{arith}
 use lib.Dec.{ltb, leb, lit<, ltb→lt, leb→le}
 use lib.ListN.{take, drop, replicate}
 use mathlib.Core.List.{List, [], _∷_}
+use mathlib.Core.Bool.{true}
 use mathlib.Core.Path.{_≡_, refl, ap, ap₂, _∙_}
 use Rattle.fraction.specs.Fraction.{_⊘_, up}
 use Rattle.exponential.specs.program.Table.{table}
@@ -24,7 +25,7 @@ use Rattle.records.specs.Format.{u16, u32, numbers, place, kind, payload, paylo
 use Rattle.records.specs.Rules.{_unless_, first-unmet}
 use Rattle.records.proofs.Chain.{apart, skipped}
 use Rattle.description.specs.Silo.{section-of, product-sent, product-of, factor-read, eccentricities-of, bottom-of, strake-count, strakes-of, depth-count, depths-of, sum, V-of, headroom-of, h-of}
-use Rattle.sheet.specs.Refusal.{sides-met, strakes-met, depths-met, value-rules, sheet-rules, refusal-of}
+use Rattle.sheet.specs.Refusal.{sides-met, strakes-met, depths-met, value-rules, rules-with, refusal-of}
 use Rattle.sheet.proofs.Layouts.{layout-numbered}
 use Rattle.answers.specs.Answers.{silo-of}
 use Rattle.answers.proofs.Demand.{same-height}
@@ -34,12 +35,12 @@ use Rattle.cases.proofs.Factor.{same-as-155, other-than-135}
 
 -- the rules before 12 are passed over, and the shape is judged by h alone
 by-shape : (h : ℕ) (s : List ℕ) → OfHeight h s → refusal-of s ≡ first-unmet (12 unless ltb h 50000 ∷ [])
-unfolding refusal-of sheet-rules value-rules
+unfolding refusal-of rules-with value-rules
 by-shape h s u =
-    let shape = drop 7 (value-rules s) in
-    let p = apart (take 7 (value-rules s)) (layout-rules s) (layout-numbered s) (u .before) in
-    let q = skipped shape (take 7 (value-rules s)) refl (p .1) in
-    skipped (value-rules s) (layout-rules s) (layout-numbered s) (p .0) ∙ q ∙ simp (u .width, u .height)
+    let shape = drop 7 (value-rules true s) in
+    let p = apart (take 7 (value-rules true s)) (layout-rules s) (layout-numbered s) (u .before) in
+    let q = skipped shape (take 7 (value-rules true s)) refl (p .1) in
+    skipped (value-rules true s) (layout-rules s) (layout-numbered s) (p .0) ∙ q ∙ simp (u .width, u .height)
 
 -- h 7,499 over 5,000: C_h is 1 + 0.8·2,499/5,000 at C0 140, C_w 1 + 0.2·2,499/5,000
 module _ (g : FillingNumbers) (s : List ℕ) (u : OfHeight 7499 s) where
@@ -95,7 +96,7 @@ middle p-we = refl
 middle p-p = refl
 
 pub marked : Marked computed
-unfolding load-depth D N magnifier magnified-load patch-load filling pressure wall-load load loaded-depth z0-scaled decay limit step P q z0 γR R Ks μ up lower between denominator entry table case-sheet refusal-of value-rules sheet-rules first-unmet layout-rules record-count records-rules record-rules allowed place payload payload-length kind u16 u32 numbers section-of product-sent eccentricities-of bottom-of strake-count strakes-of depth-count depths-of sum V-of headroom-of h-of sides-met strakes-met depths-met side-a side-b d-c product-of factor-read
+unfolding load-depth D N magnifier magnified-load patch-load filling pressure wall-load load loaded-depth z0-scaled decay limit step P q z0 γR R Ks μ up lower between denominator entry table case-sheet refusal-of value-rules rules-with first-unmet layout-rules record-count records-rules record-rules allowed place payload payload-length kind u16 u32 numbers section-of product-sent eccentricities-of bottom-of strake-count strakes-of depth-count depths-of sum V-of headroom-of h-of sides-met strakes-met depths-met side-a side-b d-c product-of factor-read
 marked =
     record {
       described = refl;

@@ -2,6 +2,7 @@
 use Prim.Native.Nat.{ℕ}
 use mathlib.Core.List.{List, [], _∷_, _++_}
 use mathlib.Core.Logic.{_⊎_}
+use mathlib.Core.Bool.{true}
 use mathlib.Core.Path.{_≡_}
 use lib.ListN.{take}
 use Rattle.fraction.specs.Fraction.{whole, _⪯_}
@@ -52,7 +53,7 @@ followed-by t = factor-sheet 140 ++ t
 
 -- a sheet of that h with d_c = 5,000 that no rule before 12 refuses: 1 to 5 on its records, and the first seven on its values
 pub record OfHeight (h : ℕ) (s : List ℕ) : Type 0 where
-  pub before : first-unmet (layout-rules s ++ take 7 (value-rules s)) ≡ 0
+  pub before : first-unmet (layout-rules s ++ take 7 (value-rules true s)) ≡ 0
   pub width : d-c (section-of s) ≡ 5000
   pub height : h-of s ≡ h
 

@@ -47,6 +47,9 @@ pub ≺-⪯-trans : {p q r : Fraction} → p ≺ q → q ⪯ r → p ≺ r
       (omega (arith, mul-lt-mul-of-pos-right {k = r .bottom} (h .order) (k .right), mul-le-mul-right (p .bottom) (k .order)));
 }
 
+pub ⊕-more : (p r : Fraction) → 0 < p .bottom → 0 < r .bottom → p ⪯ p ⊕ r
+⊕-more p r hp hr = record { left = hp; right = mul-pos hp hr; order = omega arith }
+
 -- sums and products keep the order
 pub ⊕-mono : {p p' q q' : Fraction} → p ⪯ p' → q ⪯ q' → p ⊕ q ⪯ p' ⊕ q'
 ⊕-mono {p} {p'} {q} {q'} h k = record {
@@ -62,3 +65,22 @@ pub ⊗-mono : {p p' q q' : Fraction} → p ⪯ p' → q ⪯ q' → p ⊗ q ⪯ 
   right = mul-pos (h .right) (k .right);
   order = omega (arith, mul-le-mul (h .order) (k .order));
 }
+
+-- what stands on both sides cancels
+pub ⊕-cancel : (p q r : Fraction) → p ⊕ r ⪯ q ⊕ r → p ⪯ q
+⊕-cancel p q r h =
+    let hr : 0 < r .bottom = pos-right (p .bottom) (r .bottom) (h .left) in
+    record {
+      left = pos-left (p .bottom) (r .bottom) (h .left);
+      right = pos-left (q .bottom) (r .bottom) (h .right);
+      order = le-of-mul-le-mul-right {k = r .bottom * r .bottom} (omega (arith, h .order)) (mul-pos hr hr);
+    }
+
+pub ⊗-cancel : (p q r : Fraction) → 0 < r .top → p ⊗ r ⪯ q ⊗ r → p ⪯ q
+⊗-cancel p q r ht h =
+    let hr : 0 < r .bottom = pos-right (p .bottom) (r .bottom) (h .left) in
+    record {
+      left = pos-left (p .bottom) (r .bottom) (h .left);
+      right = pos-left (q .bottom) (r .bottom) (h .right);
+      order = le-of-mul-le-mul-right {k = r .top * r .bottom} (omega (arith, h .order)) (mul-pos ht hr);
+    }

@@ -4,7 +4,7 @@ use Prim.Native.Nat.{ℕ, zero, suc, _*_, _^_, _<_}
 use native.Mathlib.Omega.{arith}
 use native.Mathlib.Nat.{pow-suc, pow-zero, mul-pos, mul-le-mul-left, le-add-right}
 use Rattle.fraction.specs.Fraction.{Fraction, whole, _⊕_, _⊗_, _⪯_}
-use Rattle.fraction.proofs.Order.{⪯-trans, ⊕-mono}
+use Rattle.fraction.proofs.Order.{⪯-trans, ⊕-more, ⊕-mono}
 use Rattle.exponential.specs.Series.{S, term, factorial}
 use Rattle.exponential.proofs.Terms.{S-positive, term-positive}
 
@@ -15,9 +15,6 @@ shared q x y hq hx hy = record {
   right = mul-pos (omega arith) (mul-pos hq (mul-pos hx hy));
   order = omega arith;
 }
-
-more : (p r : Fraction) → 0 < p .bottom → 0 < r .bottom → p ⪯ p ⊕ r
-more p r hp hr = record { left = hp; right = mul-pos hp hr; order = omega arith }
 
 module _ (q : Fraction) (hq : 0 < q .bottom) where
   term-next : (n : ℕ) → term (suc (suc n)) q ⪯ q ⊗ term (suc n) q
@@ -49,4 +46,4 @@ module _ (q : Fraction) (hq : 0 < q .bottom) where
 
   pub S-growth : (n : ℕ) → S n q ⪯ whole 1 ⊕ q ⊗ S n q
   unfolding S
-  S-growth n = ⪯-trans (more (S n q) (term (suc n) q) (S-positive n q hq) (term-positive (suc n) q hq)) (next n)
+  S-growth n = ⪯-trans (⊕-more (S n q) (term (suc n) q) (S-positive n q hq) (term-positive (suc n) q hq)) (next n)

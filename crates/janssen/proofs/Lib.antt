@@ -2,6 +2,7 @@ pub mod Rounding
 pub mod Geometry
 pub mod Argument
 pub mod FillingLaws
+pub mod Line
 pub mod Growth
 pub mod WallLoadRounding
 pub mod WallLoadLaws

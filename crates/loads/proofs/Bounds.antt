@@ -3,7 +3,7 @@
 use Prim.Native.Nat.{ℕ, zero, suc, _+_, _-_, _*_, _/_, _^_, _≤_, _<_}
 use mathlib.Core.Path.{_≡_}
 use mathlib.Core.List.{_++_, map}
-use native.Mathlib.Nat.{mul-le-mul, mul-le-mul-right, le-of-suc-le-suc}
+use native.Mathlib.Nat.{mul-le-mul, mul-le-mul-left, mul-le-mul-right, le-of-suc-le-suc}
 use native.Mathlib.Decide.{decLe}
 use native.Mathlib.Omega.{arith}
 use lib.ListN.{getD, getD-replicate}
@@ -18,6 +18,7 @@ use Rattle.janssen.specs.program.Range.{InRange}
 use Rattle.janssen.specs.program.Pressure.{computed, filling, pressure, limit, decay, step, wall-load, load, loaded-depth, z0-scaled, least-gone}
 use Rattle.janssen.proofs.Geometry.{most}
 use Rattle.janssen.proofs.FillingLaws.{limit-most}
+use Rattle.janssen.proofs.Line.{horizontal-line}
 use Rattle.discharge.specs.Discharge.{magnified-load, patch-load, C-b}
 use Rattle.hopper.specs.Hopper.{B, n3}
 use Rattle.hopper.proofs.Least.{found}
@@ -27,7 +28,7 @@ use Rattle.loads.specs.Load.{Load}
 use Rattle.loads.specs.Load.{load-depth, number, C-h, C-w, quarters, normal-number, friction-number, bottom-numbers}
 use Rattle.loads.specs.Load.Load.{listed-depth, p-hf, p-wf, p-vf, P-w, p-he, p-we, p-p}
 use Rattle.loads.specs.Bound.{bound, bottom-bound}
-use Rattle.loads.specs.program.Basis.{Fits}
+use Rattle.loads.specs.program.Basis.{Reached, Fits}
 use Rattle.loads.proofs.LoadLaws.{bottom-flat, bottom-hopper, at-quarter, C-h-moderate, C-w-moderate, dc-positive}
 
 -- ---- filling
@@ -52,10 +53,11 @@ magnified-most : (C : Fraction) → 0 < C .bottom → C .top ≤ 2 * C .bottom �
 unfolding magnified-load
 magnified-most C pos h p = up-le (C .top * p) (C .bottom * 1) (2 * p) (omega arith) (omega (arith, mul-le-mul-right p h))
 
-patch-most : (e d h : ℕ) → 0 < d → 4 * e ≤ d → patch-load e d h ≤ h
+-- β is at most 2
+patch-most : (e d h k : ℕ) → 0 < d → 4 * e ≤ d → 2 * h ≤ 5 * k → patch-load e d h ≤ k
 unfolding patch-load
-patch-most e d h hd he =
-    up-le (2 * (1 * d + 4 * e * 1) * h) (10 * (1 * d) * 1) h (omega arith) (omega (arith, mul-le-mul-right h he))
+patch-most e d h k hd he hk =
+    up-le (2 * (1 * d + 4 * e * 1) * h) (10 * (1 * d) * 1) k (omega arith) (omega (arith, mul-le-mul-right h he, mul-le-mul-left d hk))
 
 -- ---- the hopper
 n3-most : (μ b : ℕ) → n3 μ b ≤ 4 * b
@@ -90,7 +92,26 @@ module _ (c : Silo) (fits : Fits c) where
         filling-most (c .section) (c .product) (fits .range) wall-friction (load-depth c depth),
       )
   within-bound p-p depth =
-      omega (arith, patch-most (c .eccentricity) (d-c (c .section)) (number computed c p-he depth) (dc-positive c fits) (fits .eccentricity-most), p-he-most depth)
+      omega (
+        arith,
+        patch-most (c .eccentricity) (d-c (c .section)) (number computed c p-he depth) (number computed c p-he depth) (dc-positive c fits)
+            (fits .eccentricity-most) (omega arith),
+        p-he-most depth,
+      )
+
+  -- p_p down to a load depth of 74,000 mm, whatever the width: p_hf is at most 1.15·Ks·γ·z, less than 2 above
+  pub patch-small : (depth : ℕ) → Reached c depth → load-depth c depth ≤ 74000 → number computed c p-p depth < 2 ^ 21
+  patch-small depth r h =
+      let z : ℕ = load-depth c depth in
+      let i = fits .range in
+      let p-hf-most : filled horizontal depth ≤ 2553002 =
+      omega (arith, horizontal-line (c .section) (c .product) i z r, mul-le-mul (i .γ-in .most) (mul-le-mul (i .Ks-in .most) h)) in
+      let p-he-small = magnified-most (C-h c) (C-h-moderate c fits .proper) (C-h-moderate c fits .most) (filled horizontal depth) in
+      omega (
+        arith,
+        patch-most (c .eccentricity) (d-c (c .section)) (number computed c p-he depth) 2042402 (dc-positive c fits) (fits .eccentricity-most)
+            (omega (arith, p-he-small, p-hf-most)),
+      )
 
   vertical-small : number computed c p-vf (c .foot) < 2 ^ 25
   vertical-small = omega (arith, within-bound p-vf (c .foot))

@@ -22,6 +22,10 @@ InBand k c depth = FillingBand (whole 2) k (c .section) (c .product) (load-depth
 abbrev pub LowerAt : Kind → Silo → ℕ → Fraction → Type 0
 LowerAt k c depth = Lower (P k (c .section) (c .product)) (q (factors k) (c .section) (c .product) (load-depth c depth))
 
+-- p_p unrounded, over a lower fraction of p_hf
+abbrev pub exact-patch : Silo → Fraction → Fraction
+exact-patch c v = patch (c .eccentricity) (d-c (c .section)) (magnified (C-h c) v)
+
 -- what holds of a load's number n at a depth: it lies in its band, or above its formula by less than its allowance
 abbrev pub Holds : Silo → Load → ℕ → ℕ → Type 0
 Holds c listed-depth depth n = n ≡ depth
@@ -31,7 +35,7 @@ Holds c p-vf depth n = InBand vertical c depth n
 Holds c P-w depth n = WallLoadBand (c .section) (c .product) (load-depth c depth) n
 Holds c p-he depth n = Allowance (LowerAt horizontal c depth) (magnified (C-h c)) 5 n
 Holds c p-we depth n = Allowance (LowerAt wall-friction c depth) (magnified (C-w c)) 4 n
-Holds c p-p depth n = Allowance (LowerAt horizontal c depth) (λ v. patch (c .eccentricity) (d-c (c .section)) (magnified (C-h c) v)) 3 n
+Holds c p-p depth n = Allowance (LowerAt horizontal c depth) (exact-patch c) 3 n
 
 -- what the hopper's formulas are filled with: lower fractions of p_vf(V) and n3
 abbrev pub LowerFoot : Silo → Low → Type 0

@@ -5,7 +5,7 @@ ghost use Prim.Native.Nat.{_^_, _<_, _≤_};
 ghost use Rattle.hopper.specs.Hopper.{P-n, P-t};
 ghost use Rattle.exponential.specs.program.Table.{table};
 ghost use Rattle.loads.specs.Load.{load-depth, number, quarters, normal-number, friction-number, bottom-numbers};
-ghost use Rattle.loads.specs.Load.Load.{p-vf, p-he};
+ghost use Rattle.loads.specs.Load.Load.{p-vf, p-he, p-p};
 ghost use Rattle.loads.specs.program.Basis.{basis-for, Reached, Fits, Sound, depth-numbers};
 ghost use Rattle.janssen.specs.program.Pressure.{computed};
 use discharge::Magnifier;
@@ -186,4 +186,21 @@ pub fn strake_number(entries: &[u64; 3393], basis: Basis, edge: u64) -> u32
     let c_h = basis.horizontal;
     let load = discharge::magnified(c_h, horizontal);
     load.0
+}
+
+// p_p z mm below the brim.
+pub fn patch_number(entries: &[u64; 3393], basis: Basis, z: u64) -> u32
+    requires { ⌜ (now entries ≡ table) × Sound basis × Reached (basis .silo) z ⌝ }
+    ensures { λ r. ⌜ r ≡ number computed (basis .silo) p-p z ⌝ }
+{
+    let prepared = basis.prepared;
+    let horizontal = prepared.horizontal;
+    let silo = basis.silo;
+    let depth = load_depth(silo, z);
+    let p_hf = janssen::filling_pressure(entries, horizontal, depth);
+    let c_h = basis.horizontal;
+    let p_he = discharge::magnified(c_h, p_hf);
+    let shorter = basis.shorter;
+    let p_p = discharge::patch(silo.eccentricity, shorter, p_he);
+    p_p.0
 }

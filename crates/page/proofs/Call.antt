@@ -1,6 +1,7 @@
 -- What the page call answers and leaves, in its three cases: refused for the sheet, refused for the buffer's length, written.
 -- Assumes nothing.
 use Prim.Native.Nat.{ℕ, _+_, _≤_, _<_}
+use mathlib.Core.Bool.{true}
 use mathlib.Core.Path.{_≡_, refl, ap, sym, _∙_}
 use mathlib.Core.List.{List, [], _∷_, _++_}
 use native.Mathlib.Omega.{arith}
@@ -34,7 +35,7 @@ described-size s d n e f = f ∙ ap (λ (d : Described). page-size (d .depths .c
 module _ (s : List ℕ) (n : ℕ) where
   pub page-never-13 : first-unmet (page-rules s n) ≡ 13 → ⊥
   unfolding page-rules
-  page-never-13 = call-never-13 s _ refl
+  page-never-13 = call-never-13 true s _ refl
 
   pub refused-page : (refusal-of s ≡ 0 → ⊥) → first-unmet (page-rules s n) ≡ refusal-of s
   unfolding page-rules

@@ -3,14 +3,16 @@
 --     skipped        no refusal in the first part: the refusal is that of the second
 --     stopped        a refusal in the first part is the refusal of the whole
 --     apart          no refusal in the whole: none in each part
+--     chains-alike   two wholes with the same refusals in their parts
 --     next, last     the rules tried one after the other: one that is met leaves those behind it; one that is not is the refusal
 --     absent         a number that no rule has is never the refusal
 --     first-below    the refusal is below what all numbers are below
 -- A refusal is told from 0 by its number, so that the numbers have to be positive (`numbered`): a test that computes for every chain.
-use Prim.Native.Nat.{ℕ, zero, suc, _<_}
+use Prim.Native.Nat.{ℕ, zero, suc, _≤_, _<_}
 use mathlib.Core.Bool.{Bool, true, false, cond, _&&_, _||_, false≢true}
 use mathlib.Core.List.{List, [], _∷_, _++_}
 use mathlib.Core.Path.{_≡_, refl, sym, _∙_}
+use native.Mathlib.Decide.{decLe}
 use native.Mathlib.Omega.{arith}
 use borrow.Author.Tests.{eq-eqb, ltb-true}
 use lib.Dec.{eqb, ltb}
@@ -74,6 +76,15 @@ module _ (b : List Rule) where
       let m = first-met (r .number) (r .met) (a ++ b) (q .0) h in
       let rest = apart a (q .1) (m .1) in
       (rw (m .0) (rest .0), rest .1)
+
+-- two first parts with one refusal, and the same of what is behind where there is none
+pub chains-alike : (a a' b b' : List Rule) → numbered a ≡ true → numbered a' ≡ true → first-unmet a ≡ first-unmet a'
+    → (first-unmet a ≡ 0 → first-unmet b ≡ first-unmet b') → first-unmet (a ++ b) ≡ first-unmet (a' ++ b')
+chains-alike a a' b b' p p' e alike = go (decLe (first-unmet a) 0)
+  where
+    go : Dec (first-unmet a ≤ 0) → first-unmet (a ++ b) ≡ first-unmet (a' ++ b')
+    go (yes z) = let h : first-unmet a ≡ 0 = omega arith in skipped b a p h ∙ alike h ∙ sym (skipped b' a' p' (sym e ∙ h))
+    go (no z) = stopped b a (λ o. omega arith) ∙ e ∙ sym (stopped b' a' (λ o. omega (arith, e)))
 
 -- the number of rule i of a chain
 abbrev pub number-at : List Rule → ℕ → ℕ

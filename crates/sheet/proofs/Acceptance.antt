@@ -1,11 +1,10 @@
 -- A sheet is not refused exactly when it is `Accepted`: no rule of the chain refuses when each is met, and each rule's test says the
 -- inequalities of `Accepted`.
 use Prim.Native.Nat.{ℕ, _*_, _≤_, _<_}
-use mathlib.Core.Bool.{true, false, _&&_, _||_}
+use mathlib.Core.Bool.{Bool, true, false, _&&_, _||_}
 use mathlib.Core.List.{List, _++_}
 use mathlib.Core.Logic.{_⊎_, inl, inr, ⊎-elim}
-use mathlib.Core.Path.{_≡_, refl, sym, _∙_}
-use native.Mathlib.Decide.{decLe}
+use mathlib.Core.Path.{_≡_, refl, sym, ap, _∙_}
 use native.Mathlib.Omega.{arith}
 use borrow.Author.Tests.{leb-true, ltb-true, eqb-true, le-leb, lt-ltb, eq-eqb}
 use lib.Dec.{leb, ltb, eqb}
@@ -18,27 +17,27 @@ use Rattle.description.specs.declared.Bottom.{Bottom}
 use Rattle.records.specs.Rules.{Rule, within, first-unmet}
 use Rattle.records.specs.Format.{u32, record-rules, records-rules, layout-rules}
 use Rattle.records.proofs.Tests.{both-true, either-true, either-right, within-true, true-within}
-use Rattle.records.proofs.Chain.{numbered, met-at, met, apart, skipped, stopped, has, absent, below, first-below}
+use Rattle.records.proofs.Chain.{numbered, met-at, met, apart, skipped, stopped, chains-alike, has, absent, below, first-below}
 use Rattle.records.proofs.Numbers.{numbers-length}
 use Rattle.description.specs.Silo.{section-of, product-sent, eccentricities-of, bottom-of, strakes-of, depths-of, depth-count, V-of, headroom-of, h-of}
 use Rattle.description.proofs.Walls.{strakes-length}
 use Rattle.description.specs.program.Described.{described-of}
 use Rattle.sheet.specs.declared.Judged.{Judged}
 use Rattle.sheet.specs.program.Judged.{Examined}
-use Rattle.sheet.specs.Refusal.{side-met, sides-met, product-met, flat, hopper, value-rules, sheet-rules, refusal-of}
+use Rattle.sheet.specs.Refusal.{side-met, sides-met, product-met, flat, hopper, depths-met, value-rules, rules-with, sheet-rules, sheet-rules-at, refusal-of}
 use Rattle.sheet.specs.Accepted.{Hopper, Accepted}
 use Rattle.sheet.proofs.Heights.{strakes-met-at, at-strakes-met, rising-most, rising-next, next-rising}
 use Rattle.sheet.proofs.Layouts.{by-count, layout-numbered, layout-of, of-layout}
 
 -- the first refusal is that of the records or, where they have none, that of the values
-module _ (s : List ℕ) {r : ℕ} where
-  pub records-refused : r ≡ first-unmet (layout-rules s) → (r ≡ 0 → ⊥) → r ≡ refusal-of s
-  unfolding refusal-of sheet-rules
-  records-refused e n = e ∙ sym (stopped (value-rules s) (layout-rules s) (λ z. n (e ∙ z)))
+module _ (given : Bool) (s : List ℕ) {r : ℕ} where
+  pub records-refused : r ≡ first-unmet (layout-rules s) → (r ≡ 0 → ⊥) → r ≡ first-unmet (rules-with given s)
+  unfolding rules-with
+  records-refused e n = e ∙ sym (stopped (value-rules given s) (layout-rules s) (λ z. n (e ∙ z)))
 
-  pub values-refused : first-unmet (layout-rules s) ≡ 0 → r ≡ first-unmet (value-rules s) → r ≡ refusal-of s
-  unfolding refusal-of sheet-rules
-  values-refused h e = e ∙ sym (skipped (value-rules s) (layout-rules s) (layout-numbered s) h)
+  pub values-refused : first-unmet (layout-rules s) ≡ 0 → r ≡ first-unmet (value-rules given s) → r ≡ first-unmet (rules-with given s)
+  unfolding rules-with
+  values-refused h e = e ∙ sym (skipped (value-rules given s) (layout-rules s) (layout-numbered s) h)
 
 pub depths-length : (s : List ℕ) → length (depths-of s) ≡ depth-count s
 unfolding depths-of
@@ -121,12 +120,12 @@ of-bottom dc b x =
 
 -- not refused: accepted
 pub accepted : (s : List ℕ) → refusal-of s ≡ 0 → Accepted s
-unfolding refusal-of sheet-rules value-rules
+unfolding refusal-of rules-with value-rules
 accepted s h =
     let dc = d-c (section-of s) in
     let e = eccentricities-of s in
-    let parts = apart (value-rules s) (layout-rules s) (layout-numbered s) h in
-    let m : (i : ℕ) → met-at (value-rules s) i ≡ true = met (value-rules s) refl (parts .1) in
+    let parts = apart (value-rules true s) (layout-rules s) (layout-numbered s) h in
+    let m : (i : ℕ) → met-at (value-rules true s) i ≡ true = met (value-rules true s) refl (parts .1) in
     let ranges = range-of (section-of s) (product-sent s) (m 0) (m 1) in
     let central = both-true (leb (4 * e .inlet) dc) (leb (4 * e .outlet) dc) (m 2) in
     let n = strakes-length s in
@@ -150,14 +149,14 @@ accepted s h =
 
 -- accepted: not refused
 pub not-refused : (s : List ℕ) → Accepted s → refusal-of s ≡ 0
-unfolding refusal-of sheet-rules first-unmet value-rules
+unfolding refusal-of rules-with first-unmet value-rules
 not-refused s a =
     let c = section-of s in
     let v = a .values in
     let e = eccentricities-of s in
     let n = strakes-length s in
     let d = depths-length s in
-    skipped (value-rules s) (layout-rules s) (layout-numbered s) (of-layout s (a .layout))
+    skipped (value-rules true s) (layout-rules s) (layout-numbered s) (of-layout s (a .layout))
     ∙ simp (
       of-sides c (product-sent s) (v .range),
       of-product c (product-sent s) (v .range) (v .factor-range),
@@ -170,23 +169,23 @@ not-refused s a =
       lt-ltb (h-of s) (10 * d-c c) (a .below-ten),
     )
 
-pub sheet-numbered : (s : List ℕ) → numbered (sheet-rules s) ≡ true
-unfolding sheet-rules records-rules record-rules value-rules
-sheet-numbered s = by-count s (λ (l : List Rule). numbered (l ++ value-rules s) ≡ true) refl refl
+pub rules-numbered : (given : Bool) (s : List ℕ) → numbered (rules-with given s) ≡ true
+unfolding rules-with records-rules record-rules value-rules
+rules-numbered given s = by-count s (λ (l : List Rule). numbered (l ++ value-rules given s) ≡ true) refl refl
 
 -- 13 and 14 are no rules of the sheet: the length call never answers them
 pub never-13 : (s : List ℕ) → refusal-of s ≡ 13 → ⊥
-unfolding refusal-of sheet-rules records-rules record-rules value-rules
-never-13 s = absent (sheet-rules s) 13 (omega arith) (by-count s (λ (l : List Rule). has (l ++ value-rules s) 13 ≡ false) refl refl)
+unfolding refusal-of rules-with records-rules record-rules value-rules
+never-13 s = absent (sheet-rules s) 13 (omega arith) (by-count s (λ (l : List Rule). has (l ++ value-rules true s) 13 ≡ false) refl refl)
 
 pub never-14 : (s : List ℕ) → refusal-of s ≡ 14 → ⊥
-unfolding refusal-of sheet-rules records-rules record-rules value-rules
-never-14 s = absent (sheet-rules s) 14 (omega arith) (by-count s (λ (l : List Rule). has (l ++ value-rules s) 14 ≡ false) refl refl)
+unfolding refusal-of rules-with records-rules record-rules value-rules
+never-14 s = absent (sheet-rules s) 14 (omega arith) (by-count s (λ (l : List Rule). has (l ++ value-rules true s) 14 ≡ false) refl refl)
 
 -- every refusal has at most two digits
 pub refusal-small : (s : List ℕ) → refusal-of s < 100
-unfolding refusal-of sheet-rules records-rules record-rules value-rules
-refusal-small s = first-below 100 (sheet-rules s) (omega arith) (by-count s (λ (l : List Rule). below 100 (l ++ value-rules s) ≡ true) refl refl)
+unfolding refusal-of rules-with records-rules record-rules value-rules
+refusal-small s = first-below 100 (sheet-rules s) (omega arith) (by-count s (λ (l : List Rule). below 100 (l ++ value-rules true s) ≡ true) refl refl)
 
 -- a call's own rules stand behind those of the sheet
 module _ (s : List ℕ) (own : List Rule) where
@@ -196,28 +195,46 @@ module _ (s : List ℕ) (own : List Rule) where
 
   pub sheet-passed : refusal-of s ≡ 0 → first-unmet (sheet-rules s ++ own) ≡ first-unmet own
   unfolding refusal-of
-  sheet-passed h = skipped own (sheet-rules s) (sheet-numbered s) h
+  sheet-passed h = skipped own (sheet-rules s) (rules-numbered true s) h
 
   pub sheet-met : first-unmet (sheet-rules s ++ own) ≡ 0 → refusal-of s ≡ 0
   unfolding refusal-of
-  sheet-met h = apart own (sheet-rules s) (sheet-numbered s) h .0
+  sheet-met h = apart own (sheet-rules s) (rules-numbered true s) h .0
 
-  -- 13 is retired
-  pub call-never-13 : has own 13 ≡ false → first-unmet (sheet-rules s ++ own) ≡ 13 → ⊥
-  unfolding sheet-rules records-rules record-rules value-rules
-  call-never-13 h = absent (sheet-rules s ++ own) 13 (omega arith) (by-count s (λ (l : List Rule). has ((l ++ value-rules s) ++ own) 13 ≡ false) h h)
+-- 13 is retired
+pub call-never-13 : (given : Bool) (s : List ℕ) (own : List Rule) → has own 13 ≡ false → first-unmet (rules-with given s ++ own) ≡ 13 → ⊥
+unfolding rules-with records-rules record-rules value-rules
+call-never-13 given s own h =
+    absent (rules-with given s ++ own) 13 (omega arith) (by-count s (λ (l : List Rule). has ((l ++ value-rules given s) ++ own) 13 ≡ false) h h)
+
+-- a depth z given beside a sheet is at most V, and then it changes no refusal
+module _ (s : List ℕ) (z : ℕ) where
+  pub given-met : z ≤ V-of s → first-unmet (sheet-rules-at s z) ≡ refusal-of s
+  unfolding refusal-of
+  given-met h = ap (λ (given : Bool). first-unmet (rules-with given s)) (le-leb z (V-of s) h)
+
+  pub accepted-at : first-unmet (sheet-rules-at s z) ≡ 0 → (refusal-of s ≡ 0) × (z ≤ V-of s)
+  unfolding rules-with value-rules
+  accepted-at h =
+      let given = leb z (V-of s) in
+      let rules = apart (value-rules given s) (layout-rules s) (layout-numbered s) h .1 in
+      let both = both-true given (depths-met (V-of s) 0 (depths-of s)) (met (value-rules given s) refl rules 5) in
+      let under = leb-true z (V-of s) (both .0) in
+      (sym (given-met under) ∙ h, under)
+
+pub at-brim : (s : List ℕ) → first-unmet (sheet-rules-at s 0) ≡ refusal-of s
+at-brim s = given-met s 0 (omega arith)
 
 -- two sheets with one refusal, and the same of a call's own rules where there is none
 pub answers-alike : (s s' : List ℕ) (own own' : List Rule) → refusal-of s ≡ refusal-of s' → (refusal-of s ≡ 0 → first-unmet own ≡ first-unmet own')
     → first-unmet (sheet-rules s ++ own) ≡ first-unmet (sheet-rules s' ++ own')
-answers-alike s s' own own' e alike = go (decLe (refusal-of s) 0)
-  where
-    go : Dec (refusal-of s ≤ 0) → first-unmet (sheet-rules s ++ own) ≡ first-unmet (sheet-rules s' ++ own')
-    go (yes z) =
-        let h : refusal-of s ≡ 0 = omega arith in
-        sheet-passed s own h ∙ alike h ∙ sym (sheet-passed s' own' (sym e ∙ h))
-    go (no z) = sheet-first s own (λ o. omega arith) ∙ e ∙ sym (sheet-first s' own' (λ o. omega (arith, e)))
+unfolding refusal-of
+answers-alike s s' own own' e alike = chains-alike (sheet-rules s) (sheet-rules s') own own' (rules-numbered true s) (rules-numbered true s') e alike
 
--- a sheet that was examined and not refused
-pub examined-met : (s : List ℕ) (j : Judged) → Examined s j → j .refused ≡ 0 → (refusal-of s ≡ 0) × (j .described ≡ described-of s)
-examined-met s j e h = (sym (e .refusal) ∙ h, e .silo h)
+-- what is due of a sheet that was examined beside no depth, and what it describes where it is not refused
+module _ (s : List ℕ) (j : Judged) (e : Examined s 0 j) where
+  pub examined-alone : j .refused ≡ refusal-of s
+  examined-alone = e .refusal ∙ at-brim s
+
+  pub examined-met : j .refused ≡ 0 → (refusal-of s ≡ 0) × (j .described ≡ described-of s)
+  examined-met h = (sym examined-alone ∙ h, e .silo h)

@@ -6,6 +6,7 @@ use mathlib.Core.Logic.{_⊎_, ⊎-elim}
 use mathlib.Core.Path.{_≡_, refl, ap, sym, _∙_}
 use native.Mathlib.Omega.{arith}
 use borrow.Author.Tests.{eq-eqb, ne-eqb}
+use lib.Dec.{leb}
 use lib.ListN.{length, getD, take}
 use lib.Seq.{take-length}
 use Rattle.janssen.specs.Section.{d-c}
@@ -36,9 +37,9 @@ factor-range c x =
     x
 
 -- the rules of the silo described are those of the sheet's values
-pub described-judged : (s : List ℕ) → strake-count s ≤ 24 → described-rules (described-of s) (depths-of s) ≡ value-rules s
+pub described-judged : (s : List ℕ) (z : ℕ) → strake-count s ≤ 24 → described-rules (described-of s) (depths-of s) z ≡ value-rules (leb z (V-of s)) s
 unfolding described-rules value-rules wall-of h-of
-described-judged s h = rw (wall-fits s h .1) refl
+described-judged s z h = rw (wall-fits s h .1) refl
 
 module _ (s : List ℕ) where
   -- the edges: 0 at the brim, V at the foot, each below the one before by its strake. C-22 asks for these.

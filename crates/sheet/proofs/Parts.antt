@@ -6,16 +6,17 @@ use mathlib.Core.List.{List}
 use mathlib.Core.Logic.{⊎-elim}
 use mathlib.Core.Path.{_≡_, refl, ap, sym, _∙_}
 use native.Mathlib.Decide.{decLe}
+use lib.Dec.{leb}
 use native.Mathlib.Omega.{arith}
 use Rattle.records.specs.Rules.{first-unmet}
 use Rattle.records.specs.Format.{u16, u32, place, kind, payload, payload-length, layout-rules}
 use Rattle.records.proofs.Records.{place-next}
 use Rattle.records.proofs.Alike.{SameBytes, SameRecord, u16-same, u32-same, two-in, four-in, payload-length-same, kind-same, pair-same, list-same}
 use Rattle.description.specs.Silo.{section-of, product-sent, eccentricities-of, bottom-of, strake-count, strakes-of, depth-count, depths-of, V-of, headroom-of, h-of}
-use Rattle.sheet.specs.Refusal.{product-met, value-rules, refusal-of}
+use Rattle.sheet.specs.Refusal.{product-met, value-rules, sheet-rules-at, refusal-of}
 use Rattle.sheet.specs.Accepted.{Layout}
 use Rattle.sheet.proofs.Layouts.{layout-of}
-use Rattle.sheet.proofs.Acceptance.{records-refused, values-refused}
+use Rattle.sheet.proofs.Acceptance.{records-refused, values-refused, at-brim}
 
 -- γ, Ks and μ stand in the twelve bytes of the second record before C0
 pub means-same : (s s' : List ℕ) → place s 1 ≡ place s' 1 → SameBytes s s' (place s 1) (place s 1 + 12)
@@ -108,19 +109,26 @@ module _ (s s' : List ℕ) where
         headrooms = g;
       }
 
-  pub values-same : SameParts s s' → product-met (product-sent s) ≡ product-met (product-sent s') → value-rules s ≡ value-rules s'
+  -- the rules of the values, with a depth z given
+  abbrev pub SameRules : ℕ → Type 0
+  SameRules z = value-rules (leb z (V-of s)) s ≡ value-rules (leb z (V-of s')) s'
+
+  pub values-same : SameParts s s' → product-met (product-sent s) ≡ product-met (product-sent s') → (z : ℕ) → SameRules z
   unfolding value-rules h-of V-of
-  values-same p e = rw (p .sections, e, p .eccentricities, p .bottoms, p .strakes, p .depths, p .headrooms) refl
+  values-same p e z = rw (p .sections, e, p .eccentricities, p .bottoms, p .strakes, p .depths, p .headrooms) refl
 
   -- rules 1 to 5 answer the same, and the others are the same where those pass
-  module _ (records : first-unmet (layout-rules s) ≡ first-unmet (layout-rules s')) (values : Layout s → value-rules s ≡ value-rules s') where
-    refusal-by : Dec (first-unmet (layout-rules s) ≤ 0) → refusal-of s ≡ refusal-of s'
-    refusal-by (yes z) =
-        let h : first-unmet (layout-rules s) ≡ 0 = omega (arith, z) in
-        sym (values-refused s h refl) ∙ ap first-unmet (values (layout-of s h)) ∙ values-refused s' (sym records ∙ h) refl
-    refusal-by (no z) =
-        let n : first-unmet (layout-rules s) ≡ 0 → ⊥ = λ o. z (omega (arith, o)) in
-        sym (records-refused s refl n) ∙ records ∙ records-refused s' refl (λ o. n (records ∙ o))
+  module _ (records : first-unmet (layout-rules s) ≡ first-unmet (layout-rules s')) (values : Layout s → (z : ℕ) → SameRules z) where
+    refusal-by : (z : ℕ) → Dec (first-unmet (layout-rules s) ≤ 0) → first-unmet (sheet-rules-at s z) ≡ first-unmet (sheet-rules-at s' z)
+    refusal-by z (yes o) =
+        let h : first-unmet (layout-rules s) ≡ 0 = omega arith in
+        sym (values-refused (leb z (V-of s)) s h refl) ∙ ap first-unmet (values (layout-of s h) z) ∙ values-refused (leb z (V-of s')) s' (sym records ∙ h) refl
+    refusal-by z (no o) =
+        let n : first-unmet (layout-rules s) ≡ 0 → ⊥ = λ e. o (omega (arith, e)) in
+        sym (records-refused (leb z (V-of s)) s refl n) ∙ records ∙ records-refused (leb z (V-of s')) s' refl (λ e. n (records ∙ e))
+
+    pub refusal-at-same : (z : ℕ) → first-unmet (sheet-rules-at s z) ≡ first-unmet (sheet-rules-at s' z)
+    refusal-at-same z = refusal-by z (decLe (first-unmet (layout-rules s)) 0)
 
     pub refusal-same : refusal-of s ≡ refusal-of s'
-    refusal-same = refusal-by (decLe (first-unmet (layout-rules s)) 0)
+    refusal-same = sym (at-brim s) ∙ refusal-at-same 0 ∙ at-brim s'

@@ -1,4 +1,4 @@
--- The rules of a sheet in order, and the first refusal that applies to it. Document 01, "Who can be refused"; document 02, C-13.
+-- The rules of a sheet in order, and the first refusal that applies to it. Document 01, "Who can be refused"; document 02, C-13 and C-16.
 use Prim.Native.Nat.{ℕ, _+_, _*_}
 use mathlib.Core.Bool.{Bool, true, _&&_, _||_}
 use mathlib.Core.List.{List, [], _∷_, _++_}
@@ -47,22 +47,30 @@ unfoldable pub depths-met : ℕ → ℕ → List ℕ → Bool
 depths-met top low [] = true
 depths-met top low (z ∷ l) = within low top z && depths-met top (z + 1) l
 
--- the rules of a sheet's values, in order; 17: g < V; 12: h < 10·d_c; 13 is retired (document 02, C-11)
-unfoldable pub value-rules : List ℕ → List Rule
-value-rules s =
+-- the rules of a sheet's values, in order; 11 is of the listed depths and of one given beside the sheet, which is at most V or is not; 17: g < V;
+-- 12: h < 10·d_c; 13 is retired (document 02, C-11)
+unfoldable pub value-rules : Bool → List ℕ → List Rule
+value-rules given s =
     6 unless sides-met (section-of s)
     ∷ 7 unless product-met (product-sent s)
     ∷ 8 unless eccentricities-met (d-c (section-of s)) (eccentricities-of s)
     ∷ 9 unless (flat (bottom-of s) || hopper (d-c (section-of s)) (bottom-of s))
     ∷ 10 unless strakes-met (strakes-of s)
-    ∷ 11 unless depths-met (V-of s) 0 (depths-of s)
+    ∷ 11 unless (given && depths-met (V-of s) 0 (depths-of s))
     ∷ 17 unless ltb (headroom-of s) (V-of s)
     ∷ 12 unless ltb (h-of s) (10 * d-c (section-of s))
     ∷ []
 
 -- 1 to 5 on the records, then 6 to 11, 17 and 12 on the values
-unfoldable pub sheet-rules : List ℕ → List Rule
-sheet-rules s = layout-rules s ++ value-rules s
+unfoldable pub rules-with : Bool → List ℕ → List Rule
+rules-with given s = layout-rules s ++ value-rules given s
+
+-- of a sheet alone, and of a sheet beside which the depth z mm is given
+abbrev pub sheet-rules : List ℕ → List Rule
+sheet-rules s = rules-with true s
+
+abbrev pub sheet-rules-at : List ℕ → ℕ → List Rule
+sheet-rules-at s z = rules-with (leb z (V-of s)) s
 
 -- 0, or the number of the first refusal
 unfoldable pub refusal-of : List ℕ → ℕ

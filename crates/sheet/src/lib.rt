@@ -4,6 +4,8 @@ ghost use Rattle.records.specs.Rules.{first-unmet};
 ghost use Rattle.records.specs.Format.{layout-rules};
 ghost use Rattle.records.specs.program.Reader.{Located};
 ghost use Rattle.description.specs.program.Described.{described-of, Sized};
+ghost use lib.Dec.{leb};
+ghost use Rattle.description.specs.Silo.{V-of};
 ghost use Rattle.sheet.specs.Refusal.{value-rules};
 ghost use Rattle.sheet.specs.program.Judged.{Examined};
 use description::Bottom;
@@ -22,13 +24,14 @@ pub struct Judged {
     pub described: Described,
 }
 
-// What a sheet describes that meets rules 1 to 5 and whose records begin at these places, beside the first refusal of rules 6 to 12 and 17.
-fn judge(sheet: &[u8], places: &[usize; 7]) -> Judged
+// What a sheet describes that meets rules 1 to 5 and whose records begin at these places, beside the first refusal of rules 6 to 12 and 17; a depth is
+// given, mm.
+fn judge(sheet: &[u8], places: &[usize; 7], depth: u64) -> Judged
     requires { ⌜ (first-unmet (layout-rules (now sheet)) ≡ 0) × Located (now sheet) (now places) ⌝ }
-    ensures { λ r. ⌜ (r .refused ≡ first-unmet (value-rules (now (sheet .entry)))) × (r .described ≡ described-of (now (sheet .entry))) × Sized (r .described) ⌝ }
+    ensures { λ r. ⌜ (r .refused ≡ first-unmet (value-rules (leb depth (V-of (now (sheet .entry)))) (now (sheet .entry)))) × (r .described ≡ described-of (now (sheet .entry))) × Sized (r .described) ⌝ }
 {
     let described = description::describe(sheet, places);
-    let refused = rules::values_refusal(sheet, described);
+    let refused = rules::values_refusal(sheet, described, depth);
     Judged { refused, described }
 }
 
@@ -59,9 +62,10 @@ fn blank() -> Described
     }
 }
 
-// Any sheet: its first refusal, or 0 and what it describes.
-pub fn examine(sheet: &[u8]) -> Judged
-    ensures { λ r. ⌜ Examined (now (sheet .entry)) r ⌝ }
+// Any sheet with a depth given beside it, mm, which rule 11 judges with the listed ones: its first refusal, or 0 and what it describes. A call that is given
+// no depth gives 0, which no wall is short of.
+pub fn examine(sheet: &[u8], depth: u64) -> Judged
+    ensures { λ r. ⌜ Examined (now (sheet .entry)) depth r ⌝ }
 {
     let mut places = [0usize; 7];
     let refused = records::layout::find_records(sheet, &mut places);
@@ -71,5 +75,5 @@ pub fn examine(sheet: &[u8]) -> Judged
             described: blank(),
         };
     }
-    judge(sheet, &places)
+    judge(sheet, &places, depth)
 }

@@ -1,7 +1,7 @@
 // Rules 6 to 12 and 17, each a test; dc is d_c, mm.
 ghost use mathlib.Core.Path.{_≡_};
 ghost use Prim.Native.Nat.{_*_, _<_, _≤_};
-ghost use lib.Dec.{ltb};
+ghost use lib.Dec.{leb, ltb};
 ghost use lib.ListN.{length, take};
 ghost use Rattle.records.specs.Rules.{within, first-unmet};
 ghost use Rattle.description.specs.Silo.{depths-of};
@@ -119,10 +119,17 @@ fn height_met(dc: u64, h: u64) -> bool
     h < 10 * dc
 }
 
-// The first refusal of rules 6 to 11, 17 and 12 of the silo described, or 0. No rule behind it is worked out.
-pub fn values_refusal(sheet: &[u8], described: Described) -> u32
+// Rule 11 of a depth given beside the sheet, mm.
+fn depth_met(depth: u64, foot: u64) -> bool
+    ensures { λ r. ⌜ r ≡ leb depth foot ⌝ }
+{
+    depth <= foot
+}
+
+// The first refusal of rules 6 to 11, 17 and 12 of the silo described and a depth given, or 0. No rule behind it is worked out.
+pub fn values_refusal(sheet: &[u8], described: Described, depth: u64) -> u32
     requires { ⌜ Sized described × (described .depths ≡ depths-in (now sheet)) ⌝ }
-    ensures { λ r. ⌜ r ≡ first-unmet (described-rules described (depths-of (now (sheet .entry)))) ⌝ }
+    ensures { λ r. ⌜ r ≡ first-unmet (described-rules described (depths-of (now (sheet .entry))) depth) ⌝ }
 {
     let section = described.section;
     if !sides_met(section) {
@@ -146,7 +153,7 @@ pub fn values_refusal(sheet: &[u8], described: Described) -> u32
     }
     let foot = described.wall.foot;
     let depths = described.depths;
-    if !depths_met(sheet, depths, foot) {
+    if !(depth_met(depth, foot) & depths_met(sheet, depths, foot)) {
         return 11;
     }
     let headroom = described.headroom;

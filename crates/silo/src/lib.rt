@@ -5,10 +5,12 @@ ghost use Rattle.records.specs.Rules.{first-unmet};
 ghost use Rattle.answers.specs.Length.{answers-length, length-number};
 ghost use Rattle.catalogue.specs.Table.{catalogue-rules, catalogue-after};
 ghost use Rattle.governing.specs.Strakes.{governs, governs-number};
+ghost use Rattle.cosine.specs.program.Table.{entry};
 ghost use Rattle.janssen.specs.program.Pressure.{computed};
 ghost use Rattle.answers.specs.Promise.{Promise};
 ghost use Rattle.page.specs.Page.{page-length};
 ghost use Rattle.page.specs.Promise.{PagePromise};
+ghost use Rattle.shell.specs.Promise.{ShellPromise};
 
 // 0 with the answer list filled, or the number of the first refusal with the list as it was.
 #[no_mangle]
@@ -40,6 +42,14 @@ pub extern "C" fn silo_page(sheet: &[u8], page: &mut [u8]) -> u32
     ensures { λ r. ⌜ PagePromise computed (now (sheet .entry)) (now (page .entry)) r (now (page .exit)) ⌝ }
 {
     page::page(sheet, page)
+}
+
+// 0 with the reply list filled, the patch round the shell at a depth in mm below the brim; or the number of the first refusal with the list as it was.
+#[no_mangle]
+pub extern "C" fn silo_shell_patch(sheet: &[u8], depth: u32, reply: &mut [i32]) -> u32
+    ensures { λ r. ⌜ ShellPromise computed entry (now (sheet .entry)) depth (now (reply .entry)) r (now (reply .exit)) ⌝ }
+{
+    shell::shell_patch(sheet, depth, reply)
 }
 
 // 0 with the product record of a catalogue row and wall written, or 15 or 16 with the buffer as it was.

@@ -33,11 +33,11 @@ fn lines_of(rows: &[Row]) -> f64 {
 }
 
 impl Foot {
-    fn of(report: &Report, block: f64) -> Foot {
+    fn of(report: &Report, notes: &[String], block: f64) -> Foot {
         let left = RIGHT - block;
         let wrapped = |text: &str, width: f64| wrap::lines(text, SMALL, width);
-        let notes = notes(report).into_iter().enumerate().map(|(i, note)| {
-            let lines = wrapped(&note, left - GAP - LEFT - NUMBERS);
+        let notes = notes.iter().enumerate().map(|(i, note)| {
+            let lines = wrapped(note, left - GAP - LEFT - NUMBERS);
             ((i + 1).to_string(), lines)
         });
         let rows = rows(report)
@@ -83,12 +83,6 @@ impl Foot {
     }
 }
 
-fn notes(report: &Report) -> Vec<String> {
-    let mut notes = report.notes();
-    notes.push("Loads from the proved library, rounded up. Silo to scale.".to_string());
-    notes
-}
-
 /// The labels that the text has, the file and the program.
 fn rows(report: &Report) -> Vec<(&'static str, String)> {
     let file = Path::new(report.file).file_name().unwrap_or(report.file.as_ref());
@@ -98,9 +92,10 @@ fn rows(report: &Report) -> Vec<(&'static str, String)> {
     rows
 }
 
-/// Draws the foot; where it begins.
-pub fn draw(svg: &mut Svg, report: &Report) -> f64 {
-    let feet = WIDTHS.map(|width| Foot::of(report, width));
+/// Draws the foot, with notes before the drawing's own; where it begins.
+pub fn draw(svg: &mut Svg, report: &Report, mut notes: Vec<String>) -> f64 {
+    notes.push("Loads from the proved library, rounded up. Silo to scale.".to_string());
+    let feet = WIDTHS.map(|width| Foot::of(report, &notes, width));
     let lowest = feet.iter().map(Foot::top).fold(f64::MIN, f64::max);
     let foot = feet.iter().find(|foot| foot.top() >= lowest - LINE / 2.0).unwrap_or(&feet[0]);
     foot.draw(svg);

@@ -115,8 +115,8 @@ impl Layout {
         }
     }
 
-    /// The silo at the left of its tables.
-    fn beside(silo: &Description, brim: f64, lowest: f64) -> Layout {
+    /// The silo at the left of its tables, whose rows have no places yet.
+    pub fn beside(silo: &Description, brim: f64, lowest: f64) -> Layout {
         let (wall, height) = (silo.wall_height() as f64, silo.built_height() as f64);
         let width = f64::from(silo.section.shorter_side());
         let ends = ends(silo, SILO);

@@ -16,13 +16,23 @@ pub fn length(length: impl Into<u64>) -> String {
     format!("{}\u{a0}mm", grouped(length.into()))
 }
 
+/// A number as it is written without groups, whole or a decimal.
+pub fn grouped_number(written: &str) -> String {
+    match written.split_once('.') {
+        Some((whole, rest)) => format!("{}.{rest}", in_threes(whole, THIN_SPACE)),
+        None => in_threes(written, THIN_SPACE),
+    }
+}
+
 /// A load of the library, Pa or N/m.
 pub fn pressure(units: Units, pressure: u32) -> String {
-    let shown = units.show(pressure);
-    match shown.split_once('.') {
-        Some((whole, rest)) => format!("{}.{rest}", in_threes(whole, THIN_SPACE)),
-        None => in_threes(&shown, THIN_SPACE),
-    }
+    grouped_number(&units.show(pressure))
+}
+
+/// A pressure that is negative where it acts inward.
+pub fn signed(units: Units, number: i32) -> String {
+    let sign = if number < 0 { "-" } else { "" };
+    format!("{sign}{}", pressure(units, number.unsigned_abs()))
 }
 
 /// A pressure at an axis, without zeros behind the point.

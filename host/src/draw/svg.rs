@@ -111,9 +111,13 @@ impl Svg {
         self.polygon(class, &[(x1, y1), (x2, y1), (x2, y2), (x1, y2)]);
     }
 
-    pub fn dot(&mut self, class: &str, (x, y): Point) {
+    pub fn dot(&mut self, class: &str, at: Point) {
+        self.circle(class, at, 2.2);
+    }
+
+    pub fn circle(&mut self, class: &str, (x, y): Point, radius: f64) {
         self.body +=
-            &format!("<circle class=\"{class}\" cx=\"{x:.1}\" cy=\"{y:.1}\" r=\"2.2\"/>\n");
+            &format!("<circle class=\"{class}\" cx=\"{x:.1}\" cy=\"{y:.1}\" r=\"{radius:.1}\"/>\n");
     }
 
     /// A circle's arc from the point left of the centre upwards by an angle, in radians.
@@ -187,12 +191,12 @@ impl Svg {
         4.0 + if length < SHORTEST { OUTSIDE } else { 0.0 }
     }
 
-    /// The page of A4, lying.
-    pub fn page(self, title: &str) -> String {
+    /// The page of A4, lying; `more` is style of its own.
+    pub fn page(self, title: &str, more: &str) -> String {
         format!(
             "<svg xmlns=\"http://www.w3.org/2000/svg\" width=\"297mm\" height=\"210mm\" \
              viewBox=\"0 0 {WIDTH} {HEIGHT}\">\n\
-             <title>{}</title>\n<style>\n{STYLE}</style>\n\
+             <title>{}</title>\n<style>\n{STYLE}{more}</style>\n\
              <rect width=\"{WIDTH}\" height=\"{HEIGHT}\" fill=\"#fff\"/>\n{}</svg>\n",
             escape(title),
             self.body

@@ -14,12 +14,12 @@ const HOPPER_COLUMNS: [f64; 3] = [421.0, 527.0, 641.0];
 /// From a row's middle to the line on which its digits stand.
 const BASE: f64 = 3.7;
 
-pub fn draw(svg: &mut Svg, report: &Report, layout: &Layout, curves: &Loads) {
+pub fn draw(svg: &mut Svg, report: &Report, layout: &Layout, (loads, curves): (&Loads, &Loads)) {
     head(svg, report, layout);
     strakes(svg, report, layout, curves);
     match report.silo.is_flat() {
-        true => floor(svg, report, layout),
-        false => hopper(svg, report, layout),
+        true => floor(svg, report, layout, loads),
+        false => hopper(svg, report, layout, loads),
     }
 }
 
@@ -89,14 +89,14 @@ fn last_row(layout: &Layout) -> f64 {
     layout.strake_rows.last().copied().unwrap_or(layout.brim)
 }
 
-fn floor(svg: &mut Svg, report: &Report, layout: &Layout) {
-    let load = pressure(report.units, report.loads.floor());
+fn floor(svg: &mut Svg, report: &Report, layout: &Layout, loads: &Loads) {
+    let load = pressure(report.units, loads.floor());
     let text = format!("Flat floor, vertical load (5.13): {load} {}", report.units.pressure());
     svg.text("start note", (layout.table.0, last_row(layout) + 24.0), &text);
 }
 
 /// From the wall's foot, k = 4, down to the outlet.
-fn hopper(svg: &mut Svg, report: &Report, layout: &Layout) {
+fn hopper(svg: &mut Svg, report: &Report, layout: &Layout, loads: &Loads) {
     let Some(first) = layout.hopper_rows.first() else { return };
     let head = (first - HOPPER_HEAD).max(last_row(layout));
     let title = "Hopper, at k quarters of its slope up from the outlet";
@@ -106,8 +106,8 @@ fn hopper(svg: &mut Svg, report: &Report, layout: &Layout) {
     cells(svg, "end head", head + 32.0, &HOPPER_COLUMNS, &names);
     svg.line("dimension", (TABLE.0, head + 36.0), (HOPPER_COLUMNS[2] + 2.0, head + 36.0));
     let slope = layout.slope(report.silo);
-    let loads: Vec<(usize, u32, u32)> = report.loads.hopper().collect();
-    for ((k, normal, friction), row) in loads.into_iter().rev().zip(&layout.hopper_rows) {
+    let quarters: Vec<(usize, u32, u32)> = loads.hopper().collect();
+    for ((k, normal, friction), row) in quarters.into_iter().rev().zip(&layout.hopper_rows) {
         leader(svg, slope[k], *row);
         svg.dot("point", slope[k]);
         let [normal, friction] = [normal, friction].map(|load| pressure(report.units, load));

@@ -1,6 +1,7 @@
 //! The kinds of file that the tool writes: their names' endings, and how one is known by its bytes.
 
 use crate::library::{self, Refusal};
+use crate::patch;
 use crate::report::PROGRAM;
 use crate::text;
 use std::ffi::OsStr;
@@ -15,6 +16,10 @@ pub enum Kind {
     Page,
     Csv,
     Json,
+    /// The patch round a shell: its drawing, its table, and the same as CSV.
+    PatchDrawing,
+    Patch,
+    PatchCsv,
     /// Table 7.1, and the same as CSV.
     Catalogue,
     CatalogueCsv,
@@ -27,11 +32,11 @@ type Test = fn(&str) -> bool;
 impl Kind {
     pub fn word(self) -> &'static str {
         match self {
-            Kind::Drawing => "drawing",
+            Kind::Drawing | Kind::PatchDrawing => "drawing",
             Kind::Sheet => "sheet",
-            Kind::Table => "table",
+            Kind::Table | Kind::Patch => "table",
             Kind::Page => "page",
-            Kind::Csv | Kind::CatalogueCsv => "CSV",
+            Kind::Csv | Kind::PatchCsv | Kind::CatalogueCsv => "CSV",
             Kind::Json => "JSON",
             Kind::Catalogue => "catalogue",
             Kind::Text => "text",
@@ -46,6 +51,9 @@ impl Kind {
             Kind::Page => "a load page",
             Kind::Csv => "CSV of loads",
             Kind::Json => "JSON of loads",
+            Kind::PatchDrawing => "a drawing of a patch",
+            Kind::Patch => "a table of a patch",
+            Kind::PatchCsv => "CSV of a patch",
             Kind::Catalogue => "the catalogue",
             Kind::CatalogueCsv => "the catalogue's CSV",
             Kind::Text => "a silo's text",
@@ -55,11 +63,11 @@ impl Kind {
     /// The first is offered.
     fn endings(self) -> &'static [&'static str] {
         match self {
-            Kind::Drawing => &["svg"],
+            Kind::Drawing | Kind::PatchDrawing => &["svg"],
             Kind::Sheet => &["sheet"],
-            Kind::Table | Kind::Catalogue => &["txt"],
+            Kind::Table | Kind::Patch | Kind::Catalogue => &["txt"],
             Kind::Page => &["page", "txt"],
-            Kind::Csv | Kind::CatalogueCsv => &["csv"],
+            Kind::Csv | Kind::PatchCsv | Kind::CatalogueCsv => &["csv"],
             Kind::Json => &["json"],
             Kind::Text => &["silo", "txt"],
         }
@@ -91,13 +99,16 @@ impl Kind {
         }
         let text = std::str::from_utf8(bytes).ok()?;
         let text = text.strip_prefix('\u{feff}').unwrap_or(text);
-        let tests: [(Kind, Test); 8] = [
-            (Kind::Drawing, |text| text.starts_with("<svg") && text.contains("ENV 1991-4")),
+        let tests: [(Kind, Test); 11] = [
+            (Kind::PatchDrawing, |text| is_drawing(text) && text.contains(SHELL)),
+            (Kind::Drawing, is_drawing),
             (Kind::Json, |text| text.starts_with('{') && text.contains("\"p_he\"")),
+            (Kind::PatchCsv, |text| first_cell(text) == "silo" && text.contains("p_ps (")),
             (Kind::Csv, |text| first_cell(text) == "silo" && text.contains("p_he")),
             (Kind::CatalogueCsv, |text| first_cell(text) == "row" && text.contains("on steel")),
             (Kind::Catalogue, |text| text.starts_with(CATALOGUE) && ends_with_program(text)),
             (Kind::Page, |text| text.lines().next() == Some(PAGE)),
+            (Kind::Patch, |text| has_patch(text) && ends_with_program(text)),
             (Kind::Table, ends_with_program),
             (Kind::Text, text::is_silo),
         ];
@@ -107,6 +118,8 @@ impl Kind {
 
 /// How table 7.1 starts.
 const CATALOGUE: &str = "Table 7.1";
+/// What a drawing of a patch has and no other; a person's text has no such quotes.
+const SHELL: &str = "class=\"shell\"";
 /// The heading of a load page.
 const PAGE: &str = "        z      phf      pwf      pvf       PW      phe      pwe       pp";
 
@@ -119,6 +132,15 @@ fn is_sheet(bytes: &[u8]) -> bool {
             Ok(_) => true,
             Err(refusal) => !refusal.is_of_form() || lengths.contains(&refusal),
         }
+}
+
+fn is_drawing(text: &str) -> bool {
+    text.starts_with("<svg") && text.contains("ENV 1991-4")
+}
+
+/// A line after the file's name describes a patch.
+fn has_patch(text: &str) -> bool {
+    text.lines().skip(1).any(|line| line.starts_with(patch::HEADING))
 }
 
 fn first_cell(text: &str) -> &str {

@@ -1,5 +1,6 @@
-//! A drawing read back from its SVG: texts with the room that they take, and the points of its
-//! shapes. An element of the drawing stands in a line.
+//! A drawing read back from its SVG: texts with the room that they take, the points of its shapes, and
+//! what makes it unfit to be printed. An element of the drawing stands in a line.
+#![allow(dead_code)]
 
 type Point = (f64, f64);
 
@@ -179,4 +180,56 @@ impl Page {
             self.elements.iter().filter(move |(name, of, _)| name == "<circle" && of == class);
         dots.map(|(_, _, points)| points[0])
     }
+
+    /// Type that cannot be read in print, what stands over the margins, and text on other text.
+    pub fn faults(&self) -> Vec<String> {
+        [unreadable(self), outside(self), overlapping(self)].concat()
+    }
+
+    /// Of these words, those that stand nowhere.
+    pub fn unsaid(&self, said: &[String]) -> Vec<String> {
+        let page: String = self.texts.iter().map(|text| bare(&text.words)).collect();
+        let unsaid = said.iter().filter(|said| !page.contains(&bare(said)));
+        unsaid.map(|said| format!("does not say {said}")).collect()
+    }
+}
+
+/// 7 pt
+const LEAST_TYPE: f64 = 7.0 * 96.0 / 72.0;
+/// 10 mm of a page of 297 by 210 mm
+const MARGIN: f64 = 10.0 * 96.0 / 25.4;
+const PAPER: (f64, f64) = (297.0 * 96.0 / 25.4, 210.0 * 96.0 / 25.4);
+
+fn unreadable(page: &Page) -> Vec<String> {
+    let small = page.texts.iter().filter(|text| text.least_size < LEAST_TYPE);
+    small.map(|text| format!("under 7 pt: {text:?}")).collect()
+}
+
+fn outside(page: &Page) -> Vec<String> {
+    let corners = page.texts.iter().flat_map(|text| [text.low, text.high]);
+    let all = corners.chain(page.points.iter().copied());
+    let outside =
+        all.filter(|(x, y)| x.min(*y) < MARGIN || *x > PAPER.0 - MARGIN || *y > PAPER.1 - MARGIN);
+    outside.map(|point| format!("over the margins: {point:?}")).collect()
+}
+
+/// Texts side by side stand at least so far apart, more than a space of their own.
+const BESIDE: f64 = 5.0;
+
+fn overlapping(page: &Page) -> Vec<String> {
+    let meet = |a: &Text, b: &Text| {
+        let level = a.low.0 < b.high.0 + BESIDE && b.low.0 < a.high.0 + BESIDE;
+        level && a.low.1 < b.high.1 && b.low.1 < a.high.1
+    };
+    let mut faults = Vec::new();
+    for (i, one) in page.texts.iter().enumerate() {
+        let others = page.texts[i + 1..].iter().filter(|other| meet(one, other));
+        faults.extend(others.map(|other| format!("{one:?} on {other:?}")));
+    }
+    faults
+}
+
+/// Without spaces and the mark of a lowered letter.
+pub fn bare(text: &str) -> String {
+    text.chars().filter(|c| !c.is_whitespace() && *c != '_' && *c != '\u{200b}').collect()
 }

@@ -49,7 +49,7 @@ impl Comparison<'_> {
     /// The length call, and the page call with each of these buffers. A refused sheet is lent them round the page that its records ask for,
     /// or round the shortest where they cannot be read.
     pub(super) fn pages(&mut self, bytes: &[u8], listed: Listed, buffers: Range<usize>) -> Outcome {
-        if !self.with_pages {
+        if self.loads_alone {
             return Ok(());
         }
         let (told, answer) = (self.calls.page_length(bytes)?, page::length_answer(silo(listed)));
@@ -97,7 +97,7 @@ impl Comparison<'_> {
 
     /// The page call for an accepted sheet with buffers of these lengths.
     pub fn page_in(&mut self, silo: &Silo, lengths: &[usize]) -> Outcome {
-        if !self.with_pages {
+        if self.loads_alone {
             return Ok(());
         }
         let (bytes, list) = (silo.sheet(), self.answers(silo)?);
@@ -109,7 +109,7 @@ impl Comparison<'_> {
 
     /// Two sheets that mean the same: both page calls answer alike, and leave alike buffers.
     pub(super) fn same_pages(&self, one: &[u8], other: &[u8], due: usize) -> Outcome {
-        if !self.with_pages {
+        if self.loads_alone {
             return Ok(());
         }
         let alike = self.calls.page_length(one)? == self.calls.page_length(other)?;

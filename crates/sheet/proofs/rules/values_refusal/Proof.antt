@@ -1,7 +1,7 @@
 -- The rules tried one after the other: where those up to a rule are met, what is due is the first refusal of those behind it (`met-6` ..),
 -- and a rule that is not met is the answer.
 use Prim.Native.Nat.{ℕ, _+_, _-_, _*_}
-use mathlib.Core.Bool.{Bool, true, _||_}
+use mathlib.Core.Bool.{Bool, true, _&&_, _||_}
 use mathlib.Core.List.{List}
 use mathlib.Core.Path.{_≡_, sym, _∙_, ap, ap₂}
 use native.Mathlib.Omega.{arith}
@@ -25,6 +25,7 @@ use Rattle.sheet.proofs.rules.eccentricities_met.Reads as eccentricitie
 use Rattle.sheet.proofs.rules.is_flat.Reads as is-flat-reads
 use Rattle.sheet.proofs.rules.is_hopper.Reads as is-hopper-reads
 use Rattle.sheet.proofs.rules.strakes_met.Reads as strakes-met-reads
+use Rattle.sheet.proofs.rules.depth_met.Reads as depth-met-reads
 use Rattle.sheet.proofs.rules.depths_met.Reads as depths-met-reads
 use Rattle.sheet.proofs.rules.headroom_met.Reads as headroom-met-reads
 use Rattle.sheet.proofs.rules.height_met.Reads as height-met-reads
@@ -34,13 +35,13 @@ of-width : (test : ℕ → Bool) {n dc : ℕ} {b : Bool} → n ≡ dc → test n
 of-width test e h = sym (ap test e) ∙ h
 
 abbrev calls : lts.Claims
-calls = (sides-met-reads.Asked, sides-met-reads.Learnt, product-met-reads.Asked, product-met-reads.Learnt, shorter-side-reads.Asked, shorter-side-reads.Learnt, eccentricities-met-reads.Asked, eccentricities-met-reads.Learnt, is-flat-reads.Asked, is-flat-reads.Learnt, is-hopper-reads.Asked, is-hopper-reads.Learnt, strakes-met-reads.Asked, strakes-met-reads.Learnt, depths-met-reads.Asked, depths-met-reads.Learnt, headroom-met-reads.Asked, headroom-met-reads.Learnt, height-met-reads.Asked, height-met-reads.Learnt)
+calls = (sides-met-reads.Asked, sides-met-reads.Learnt, product-met-reads.Asked, product-met-reads.Learnt, shorter-side-reads.Asked, shorter-side-reads.Learnt, eccentricities-met-reads.Asked, eccentricities-met-reads.Learnt, is-flat-reads.Asked, is-flat-reads.Learnt, is-hopper-reads.Asked, is-hopper-reads.Learnt, strakes-met-reads.Asked, strakes-met-reads.Learnt, depth-met-reads.Asked, depth-met-reads.Learnt, depths-met-reads.Asked, depths-met-reads.Learnt, headroom-met-reads.Asked, headroom-met-reads.Learnt, height-met-reads.Asked, height-met-reads.Learnt)
 
 abbrev Start : Type 0
 Start = lts.Start calls reads.Pre reads.Post
 
 abbrev rules : Start → List Rule
-rules s = described-rules (s .args .t2) (depths-of (s .args .sheet .now))
+rules s = described-rules (s .args .t2) (depths-of (s .args .sheet .now)) (s .args .depth)
 
 -- where the rules up to 6, 7, .. are met; from there back to the rule before, and to the start
 abbrev Met6 : Type 0
@@ -80,7 +81,7 @@ abbrev back-10 : Met10 → Met9
 back-10 x = x .before .before .before .before
 
 abbrev back-11 : Met11 → Met10
-back-11 x = x .before .before .before
+back-11 x = x .before .before .before .before
 
 abbrev back-17 : Met17 → Met11
 back-17 x = x .before .before
@@ -136,7 +137,7 @@ met-10 x = met-9 (back-10 x) ∙ next (rules (start-10 x)) 4 (sym (x .before .st
 
 met-11 : (x : Met11) → first-unmet (rules (start-11 x)) ≡ first-unmet (drop 6 (rules (start-11 x)))
 unfolding described-rules
-met-11 x = met-10 (back-11 x) ∙ next (rules (start-11 x)) 5 (sym (x .before .depths-met .ensures) ∙ not-false _ (x .if6 .left))
+met-11 x = met-10 (back-11 x) ∙ next (rules (start-11 x)) 5 (sym (ap₂ _&&_ (x .before .before .depth-met .ensures) (x .before .depths-met .ensures)) ∙ not-false _ (x .if6 .left))
 
 headroom-right : (x : Met17) → ltb (start-17 x .args .t2 .headroom) (start-17 x .args .t2 .wall .foot) ≡ true
 headroom-right x = sym (x .before .headroom-met .ensures) ∙ not-false _ (x .if7 .left)
@@ -204,14 +205,17 @@ returns-5 c =
     let before = c .before .before .before .before in
     sym (met-9 before ∙ last (rules (start-9 before)) 4 (sym (c .before .strakes-met .ensures) ∙ not-true _ (c .if5 .taken)))
 
+depth-met-requires : tie.Need-depth-met-requires
+depth-met-requires c κs = search needs
+
 depths-met-requires : tie.Need-depths-met-requires
 depths-met-requires c κs = search needs
 
 returns-6 : tie.Need-returns-6
 unfolding described-rules
 returns-6 c =
-    let before = c .before .before .before in
-    sym (met-10 before ∙ last (rules (start-10 before)) 5 (sym (c .before .depths-met .ensures) ∙ not-true _ (c .if6 .taken)))
+    let before = c .before .before .before .before in
+    sym (met-10 before ∙ last (rules (start-10 before)) 5 (sym (ap₂ _&&_ (c .before .before .depth-met .ensures) (c .before .depths-met .ensures)) ∙ not-true _ (c .if6 .taken)))
 
 headroom-met-requires : tie.Need-headroom-met-requires
 headroom-met-requires c κs = search needs
@@ -261,6 +265,7 @@ values-refusal-spec =
     returns-4
     strakes-met-requires
     returns-5
+    depth-met-requires
     depths-met-requires
     returns-6
     headroom-met-requires

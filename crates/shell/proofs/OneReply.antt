@@ -1,0 +1,99 @@
+-- The reply list beside others: at 0 degrees it has p_p of the answer list (`as-answered`), and sheets that describe one silo have one reply (`one-reply`):
+-- a sheet of six records beside the same with a headroom of 0 (`level-reply`, document 02, C-13), and one with a blank factor beside the same with 155
+-- (`reply-acts-as-155`, C-14).
+use Prim.Native.Nat.{ℕ, _+_, _*_, _≤_, _<_}
+use mathlib.Core.Path.{_≡_, refl, ap, sym, subst, _∙_}
+use mathlib.Core.List.{List, [], _∷_, _++_}
+use native.Mathlib.Decide.{decLe, decLt}
+use native.Mathlib.Omega.{arith}
+use lib.Dec.{leb, eqb}
+use lib.ListN.{length, getD}
+use lib.Seq.{ext-getD}
+use lib.IntN.{ℤ, pos}
+use Rattle.fraction.proofs.Up.{up-unique}
+use Rattle.cosine.specs.program.Table.{entry}
+use Rattle.cosine.proofs.CosineLaws.{tabulated}
+use Rattle.janssen.specs.Section.{d-c}
+use Rattle.janssen.specs.program.Pressure.{computed}
+use Rattle.records.specs.Format.{place}
+use Rattle.records.specs.Rules.{_unless_, first-unmet}
+use Rattle.records.proofs.Chain.{chains-alike}
+use Rattle.description.specs.Silo.{depth-count, V-of}
+use Rattle.sheet.specs.Refusal.{sheet-rules-at, refusal-of}
+use Rattle.sheet.proofs.Acceptance.{accepted-at, rules-numbered}
+use Rattle.loads.specs.declared.Silo.{Silo}
+use Rattle.loads.specs.Load.{number}
+use Rattle.loads.specs.Load.Load.{p-p}
+use Rattle.answers.specs.Answers.{silo-of, depth, load-in, Filled}
+use Rattle.answers.specs.Factor.{with-factor, Blank}
+use Rattle.answers.proofs.OneSilo.{OneSilo}
+use Rattle.answers.proofs.Headroom.{level, level-refusal-at, level-silo}
+use Rattle.answers.proofs.Factor.{blank-refusal-at, same-silo}
+use Rattle.shell.specs.Shell.{apart, size, Round, RoundOf, is-circle, shell-rules}
+use Rattle.shell.specs.Promise.{ShellPromise}
+use Rattle.shell.proofs.Quadrants.{near}
+use Rattle.shell.proofs.Call.{shell-accepted}
+
+-- the size at 0 degrees is p_p
+size-whole : (p : ℕ) → size entry p 0 ≡ p
+unfolding size
+size-whole p =
+    let e = tabulated .exact .0 in
+    up-unique (p * entry 0) 1000000000 p (omega arith) (omega (arith, ap (λ (x : ℕ). p * x) e)) (omega (arith, ap (λ (x : ℕ). p * x) e))
+
+-- p_p of the given depth is the one that the answer list has for it
+pub as-answered : (s answers : List ℕ) (z : ℕ) (list : List ℤ) → Filled computed s answers → RoundOf computed entry s z list
+    → (i : ℕ) → i < depth-count s → depth s i ≡ z → getD list 0 (pos 0) ≡ pos (load-in s answers p-p i)
+unfolding apart
+as-answered s answers z list a r i h e =
+    let p = number computed (silo-of s) p-p z in
+    r .pressures 0 (omega arith)
+    ∙ near p 0 0 refl (omega arith)
+    ∙ ap pos (size-whole p ∙ ap (number computed (silo-of s) p-p) (sym e) ∙ sym (a .at-depths p-p i h))
+
+-- every number of the list is fixed
+round-once : (d p : ℕ) (list list' : List ℤ) → Round entry d p list → Round entry d p list' → list ≡ list'
+round-once d p list list' r r' = ext-getD (pos 0) list list' (r .due ∙ sym (r' .due)) each
+  where
+    last : (i : ℕ) → i ≡ 360 → getD list i (pos 0) ≡ getD list' i (pos 0)
+    last i e = ap (λ (k : ℕ). getD list k (pos 0)) e ∙ r .force ∙ sym (r' .force) ∙ ap (λ (k : ℕ). getD list' k (pos 0)) (sym e)
+
+    at : (i : ℕ) → i < length list → Dec (i < 360) → getD list i (pos 0) ≡ getD list' i (pos 0)
+    at i l (yes h) = r .pressures i h ∙ sym (r' .pressures i h)
+    at i l (no h) = last i (omega (arith, r .due))
+
+    each : (i : ℕ) → i < length list → getD list i (pos 0) ≡ getD list' i (pos 0)
+    each i l = at i l (decLt i 360)
+
+module _ (s s' : List ℕ) (z : ℕ) (refusals : first-unmet (sheet-rules-at s z) ≡ first-unmet (sheet-rules-at s' z)) (one : refusal-of s ≡ 0 → OneSilo s s') where
+  answer-by : (n : ℕ) → first-unmet (shell-rules s z n) ≡ first-unmet (shell-rules s' z n)
+  unfolding shell-rules
+  answer-by n =
+      chains-alike (sheet-rules-at s z) (sheet-rules-at s' z) _ _ (rules-numbered (leb z (V-of s)) s) (rules-numbered (leb z (V-of s')) s') refusals
+      (λ h. ap (λ (c : Silo). first-unmet (19 unless is-circle (c .section) ∷ 14 unless eqb n 361 ∷ [])) (one (accepted-at s z h .0) .silos))
+
+  module _ {lent left left' : List ℤ} {r r' : ℕ} (a : ShellPromise computed entry s z lent r left) (b : ShellPromise computed entry s' z lent r' left') where
+    answers-same : r ≡ r'
+    answers-same = a .answer ∙ answer-by (length lent) ∙ sym (b .answer)
+
+    left-by : Dec (r ≤ 0) → left ≡ left'
+    left-by (yes o) =
+        let h : r ≡ 0 = omega arith in
+        let c = one (shell-accepted s z (length lent) (sym (a .answer) ∙ h) .0) .silos in
+        round-once _ _ left left' (a .filled h)
+        (subst (λ (c : Silo). Round entry (d-c (c .section)) (number computed c p-p z) left') (sym c) (b .filled (sym answers-same ∙ h)))
+    left-by (no o) = a .unchanged (λ e. o (omega (arith, e))) ∙ sym (b .unchanged (λ e. o (omega (arith, e, answers-same))))
+
+    pub one-reply : (r ≡ r') × (left ≡ left')
+    one-reply = (answers-same, left-by (decLe r 0))
+
+module _ (s : List ℕ) (z : ℕ) (lent left left' : List ℤ) (r r' : ℕ) where
+  -- a sheet of six records, and a headroom of 0 behind it
+  pub level-reply : place s 6 ≡ length s → length s + 8 ≤ 1024 → ShellPromise computed entry s z lent r left
+      → ShellPromise computed entry (s ++ level) z lent r' left' → (r ≡ r') × (left ≡ left')
+  level-reply six short a b = one-reply s (s ++ level) z (level-refusal-at s six short z) (level-silo s six short) a b
+
+  -- a blank factor, and 155 written in
+  pub reply-acts-as-155 : Blank s → ShellPromise computed entry s z lent r left → ShellPromise computed entry (with-factor 155 s) z lent r' left'
+      → (r ≡ r') × (left ≡ left')
+  reply-acts-as-155 blank a b = one-reply s (with-factor 155 s) z (blank-refusal-at s blank 155 (omega arith) (omega arith) z) (same-silo s blank) a b

@@ -1,0 +1,37 @@
+-- What holds of the patch round the shell: each size is at or above its exact value and less than 5 Pa above it. Document 02, C-16.
+use Prim.Native.Nat.{ℕ, _≤_, _<_}
+use mathlib.Core.Path.{_≡_}
+use mathlib.Core.List.{List}
+use lib.ListN.{getD}
+use lib.IntN.{ℤ, pos, natAbs}
+use Rattle.fraction.specs.Fraction.{Fraction, whole, _⊗_}
+use Rattle.cosine.specs.Cosine.{Difference, AtMost, LessAbove, cosine-above, cosine-below}
+use Rattle.janssen.specs.Filling.Kind.{horizontal}
+use Rattle.janssen.specs.Numbers.{FillingNumbers}
+use Rattle.description.specs.Silo.{V-of}
+use Rattle.loads.specs.Holds.{LowerAt, exact-patch}
+use Rattle.answers.specs.Answers.{silo-of}
+use Rattle.shell.specs.Shell.{folded, outward, signed, RoundOf}
+
+abbrev pub scaled : Fraction → Difference → Difference
+scaled F c = record { more = F ⊗ c .more; less = F ⊗ c .less }
+
+-- a size beside F·cos d, F being p_p's unrounded formula over lower fractions and d from 0 to 90 degrees
+pub record SizeHolds {A : Type 0} (Low : A → Type 0) (F : A → Fraction) (w d size : ℕ) : Type 0 where
+  -- at or above every product of F over a lower fraction and a lower sum of the cosine
+  pub at-or-above : (v : A) → Low v → (n : ℕ) → AtMost (scaled (F v) (cosine-below d n)) (whole size)
+  -- and with some upper sum, which the cosine is not above
+  pub above-upper : (v : A) → Low v → (n : ℕ) × AtMost (scaled (F v) (cosine-above d n)) (whole size)
+  -- less than w above some product of F over a lower fraction and a lower sum
+  pub less-above : (v : A) × Low v × (n : ℕ) × LessAbove (whole w) (scaled (F v) (cosine-below d n)) (whole size)
+
+-- the reply list for the depth z
+pub record ShellClaim (f : FillingNumbers) (c : ℕ → ℕ) (s : List ℕ) (z : ℕ) (list : List ℤ) : Type 0 where
+  -- each pressure has its sign, and its size keeps the allowance
+  pub sizes : (θ : ℕ) → θ < 360
+      → (n : ℕ) × (getD list θ (pos 0) ≡ signed (outward θ) n) × SizeHolds (LowerAt horizontal (silo-of s) z) (exact-patch (silo-of s)) 5 (folded θ) n
+  -- none at 90 and 270 degrees
+  pub none : (getD list 90 (pos 0) ≡ pos 0) × (getD list 270 (pos 0) ≡ pos 0)
+  -- going down, no size falls, and the force neither
+  pub down : (z' : ℕ) (list' : List ℤ) → RoundOf f c s z' list' → z ≤ z' → z' ≤ V-of s → (i : ℕ) → i < 361
+      → natAbs (getD list i (pos 0)) ≤ natAbs (getD list' i (pos 0))

@@ -1,0 +1,5 @@
+pub mod Shell
+pub mod Holds
+pub mod Promise
+pub mod Symmetry
+pub mod program

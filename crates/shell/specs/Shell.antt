@@ -1,0 +1,76 @@
+-- The patch round a thin circular shell at one depth given beside the sheet, and what its call answers. Document 02, C-16; source 001, equations
+-- 5.10 to 5.12. c names the entries of the table of cosines, which document 02 leaves free.
+use Prim.Native.Nat.{ℕ, _-_, _<_, min}
+use mathlib.Core.Path.{_≡_}
+use mathlib.Core.Bool.{Bool, true, false}
+use mathlib.Core.List.{List, [], _∷_, _++_}
+use lib.Dec.{leb, eqb}
+use lib.ListN.{length, getD}
+use lib.IntN.{ℤ, pos, negℤ}
+use Rattle.fraction.specs.Fraction.{Fraction, _⊘_, whole, _⊗_, _÷_, up}
+use Rattle.cosine.specs.Cosine.{billionths}
+use Rattle.janssen.specs.declared.Section.{Section}
+use Rattle.janssen.specs.declared.Section.the-variants.{Circle, Rectangle}
+use Rattle.janssen.specs.Section.{d-c, metres}
+use Rattle.janssen.specs.Numbers.{FillingNumbers}
+use Rattle.records.specs.Rules.{Rule, _unless_}
+use Rattle.description.specs.Silo.{section-of}
+use Rattle.sheet.specs.Refusal.{sheet-rules-at}
+use Rattle.loads.specs.Load.{number}
+use Rattle.loads.specs.Load.Load.{p-p}
+use Rattle.answers.specs.Answers.{silo-of}
+
+-- the angle between θ and 0, from 0 to 180 degrees
+unfoldable pub apart : ℕ → ℕ
+apart θ = min θ (360 - θ)
+
+-- the angle from 0 to 90 degrees whose cosine has the same size
+unfoldable pub folded : ℕ → ℕ
+folded θ = min (apart θ) (180 - apart θ)
+
+-- the patch pushes outward up to 90 degrees from 0, inward beyond
+unfoldable pub outward : ℕ → Bool
+outward θ = leb (apart θ) 90
+
+-- a size with its sign, outward positive
+abbrev pub signed : Bool → ℕ → ℤ
+signed true n = pos n
+signed false n = negℤ (pos n)
+
+-- the size of p_p·cos d, rounded away from zero; p in Pa, d from 0 to 90 degrees
+unfoldable pub size : (ℕ → ℕ) → ℕ → ℕ → ℕ
+size c p d = up (whole p ⊗ billionths (c d))
+
+-- p_ps = p_p·cos θ (5.11), Pa
+unfoldable pub p-ps : (ℕ → ℕ) → ℕ → ℕ → ℤ
+p-ps c p θ = signed (outward θ) (size c p (folded θ))
+
+-- s = 0.2·d_c (5.10), m; d in mm
+abbrev pub patch-height : ℕ → Fraction
+patch-height d = (2 ⊘ 10) ⊗ metres d
+
+-- F_p = π/2·s·d_c·p_p (5.12) with 355/113 for π, N, rounded up once; d in mm, p in Pa
+unfoldable pub F-p : ℕ → ℕ → ℕ
+F-p d p = up ((355 ⊘ 113) ÷ whole 2 ⊗ patch-height d ⊗ metres d ⊗ whole p)
+
+-- the reply list for the patch p of a circle of width d: 360 pressures, and the force
+pub record Round (c : ℕ → ℕ) (d p : ℕ) (list : List ℤ) : Type 0 where
+  pub due : length list ≡ 361
+  pub pressures : (θ : ℕ) → θ < 360 → getD list θ (pos 0) ≡ p-ps c p θ
+  pub force : getD list 360 (pos 0) ≡ pos (F-p d p)
+
+-- p_p at the depth z mm below the brim, as the answer list has it
+abbrev pub patch-at : FillingNumbers → List ℕ → ℕ → ℕ
+patch-at f s z = number f (silo-of s) p-p z
+
+-- the reply list of a sheet and a depth
+abbrev pub RoundOf : FillingNumbers → (ℕ → ℕ) → List ℕ → ℕ → List ℤ → Type 0
+RoundOf f c s z list = Round c (d-c (section-of s)) (patch-at f s z) list
+
+unfoldable pub is-circle : Section → Bool
+is-circle (Circle d) = true
+is-circle (Rectangle a b) = false
+
+-- the rules of the call, given the depth z and lent a list of n numbers: those of the sheet and the depth, then 19 and 14
+unfoldable pub shell-rules : List ℕ → ℕ → ℕ → List Rule
+shell-rules s z n = sheet-rules-at s z ++ (19 unless is-circle (section-of s) ∷ 14 unless eqb n 361 ∷ [])

@@ -1,0 +1,9 @@
+-- The reply list as the program fills it.
+use Prim.Native.Nat.{ℕ, _+_, _-_}
+use mathlib.Core.List.{List}
+use lib.ListN.{set}
+use lib.IntN.{ℤ, pos, negℤ}
+
+-- a size in its four places, d degrees to either side of 0 and of 180; d from 0 to 90
+abbrev pub placed : List ℤ → ℕ → ℕ → List ℤ
+placed list d n = set (set (set (set list d (pos n)) (360 - d) (pos n)) (180 - d) (negℤ (pos n))) (180 + d) (negℤ (pos n))

@@ -1,0 +1,106 @@
+//! The patch round a thin circular shell at one depth (5.11, 5.12): what every output says of it.
+
+use crate::library::ShellPatch;
+use crate::number::tenths;
+use crate::report::Report;
+
+pub struct Patch<'a> {
+    pub report: Report<'a>,
+    /// z, mm below the brim
+    pub depth: u32,
+    pub shell: ShellPatch,
+}
+
+/// How the lines that describe a patch start, in a table.
+pub const HEADING: &str = "Patch round the shell, ";
+/// Which pressure stands at a degree.
+pub const LAW: &str = "p_ps = p_p cos theta (5.11), outward positive, inward negative";
+
+const WALLS: &str =
+    "The patch goes round thin-walled circles, d_c/t over 200 and no ring stiffeners (1.4.15.3). On concrete and stiffened walls it acts on two \
+     opposite squares with sides of s (5.2.1.1, 4).";
+const PLACES: &str =
+    "The patch is added to p_he. It may act at any depth and towards any side: 0 degrees is the side where it presses outward most (5.2.1.1, 3 \
+     and 6).";
+
+impl Patch<'_> {
+    /// Degrees from 0 on, so far apart, each with its pressure, Pa.
+    pub fn every(&self, step: usize) -> impl Iterator<Item = (usize, i32)> + '_ {
+        self.shell.pressures().iter().copied().enumerate().step_by(step)
+    }
+
+    /// z - g, where there is headroom; mm, 0 above the grain.
+    pub fn below_surface(&self) -> Option<u32> {
+        let headroom = Some(self.report.silo.headroom).filter(|headroom| *headroom > 0);
+        headroom.map(|headroom| self.depth.saturating_sub(headroom))
+    }
+
+    /// s, tenths of a mm
+    pub fn height(&self) -> u64 {
+        self.report.silo.section.patch_side()
+    }
+
+    /// The band's edges, the depth being at its middle, as far as the wall goes; tenths of a mm below the brim.
+    pub fn band(&self) -> (u64, u64) {
+        let (from, to) = self.whole_band();
+        (from.max(0) as u64, (to as u64).min(10 * self.report.silo.wall_height()))
+    }
+
+    fn whole_band(&self) -> (i64, i64) {
+        let (middle, half) = (10 * i64::from(self.depth), self.height() as i64 / 2);
+        (middle - half, middle + half)
+    }
+
+    /// Where it acts, its greatest pressure, its height and its force, a line each; `written` is how a number looks.
+    pub fn facts(&self, written: impl Fn(&str) -> String) -> [String; 4] {
+        let units = self.report.units;
+        let length = |number: u32| format!("{} mm", written(&number.to_string()));
+        let in_tenths = |number: u64| written(&tenths(number));
+        let surface = match self.below_surface() {
+            None => String::new(),
+            Some(0) => format!("; the grain begins at {}", length(self.report.silo.headroom)),
+            Some(depth) => format!(", {} below the grain's surface", length(depth)),
+        };
+        let (from, to) = self.band();
+        [
+            format!("{HEADING}{} below the brim{surface}", length(self.depth)),
+            format!(
+                "p_p {} {} at 0 degrees, on discharge (5.24)",
+                written(&units.show(self.shell.pressure())),
+                units.pressure()
+            ),
+            format!(
+                "s {} mm, its height, from {} to {} mm (5.10)",
+                in_tenths(self.height()),
+                in_tenths(from),
+                in_tenths(to)
+            ),
+            format!(
+                "F_p {} {}, its force, towards 0 degrees (5.12)",
+                written(&units.show(self.shell.force())),
+                units.force()
+            ),
+        ]
+    }
+
+    /// What the patch leaves out, as far as it applies to this silo and depth.
+    pub fn notes(&self) -> Vec<String> {
+        let mut notes = self.report.notes_of_silo();
+        notes.extend([WALLS, PLACES].map(str::to_string));
+        notes.extend(self.cut_off());
+        notes.extend(self.report.unreduced());
+        notes
+    }
+
+    /// A band that would go beyond the wall.
+    fn cut_off(&self) -> Option<String> {
+        let (from, to) = self.whole_band();
+        let ends = [
+            (from < 0, "at the brim"),
+            (to > 10 * self.report.silo.wall_height() as i64, "at the wall's foot"),
+        ];
+        let cut: Vec<&str> = ends.iter().filter(|(cut, _)| *cut).map(|(_, end)| *end).collect();
+        let ends = cut.join(" and ");
+        (!cut.is_empty()).then(|| format!("The band ends {ends}; F_p is for its whole height s."))
+    }
+}
