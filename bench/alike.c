@@ -4,7 +4,8 @@
  * is refused. Where the earlier library is from before C-14, the library's answer to a blank factor is compared with the earlier one's to
  * 155 written in, and the library's to 135 written in with the earlier one's to a blank factor. Where it is from before C-13, sheets that go
  * on behind their sixth record are not among these: it answers 5 to them, and the library's length call is compared with the reading of
- * bench/sheet.c. Prints the counts. Status 1: a difference, with the library's sheet in hexadecimal; or a refusal that was never reached. */
+ * bench/sheet.c. Where it is from before C-17, the library's load call alone is made with long bins, which the earlier one calculates. Prints
+ * the counts. Status 1: a difference, with the library's sheet in hexadecimal; or a refusal that was never reached. */
 #include "before.h"
 #include "sheet.h"
 #include "silo.h"
@@ -20,9 +21,9 @@ enum { DAMAGED = 8, GUARDS = 4, LONGEST = 1100, ROOM = 4096 };
 /* The longest list, one more than any that is due, with its guards. */
 enum { LIST = GUARDS + MAX_ANSWERS + 1 + GUARDS };
 
-/* Refusals of the two calls, in their order. */
+/* Refusals of the two calls, in their order, and the greatest of the length call. */
 enum { WRONG_LENGTH = 14, GREATEST = 17 };
-static const int REFUSALS[] = {1, 2, 3, 4, 5, 6, 7, 8, 9, 10, 11, 17, 12, WRONG_LENGTH};
+static const int REFUSALS[] = {1, 2, 3, 4, 5, 6, UNEQUAL, 7, 8, 9, 10, 11, 17, 12, WRONG_LENGTH};
 enum { REFUSAL_COUNT = sizeof REFUSALS / sizeof *REFUSALS };
 
 /* A record with the length and kind that its header states, and room for a number too many. */
@@ -42,8 +43,8 @@ struct bytes {
     size_t length;
 };
 
-static bool no_headroom_before, blank_is_135_before;
-static uint64_t state, sheets, accepted, read_here, blank, blank_accepted, refused[GREATEST + 1];
+static bool no_headroom_before, blank_is_135_before, long_before;
+static uint64_t state, sheets, accepted, read_here, blank, blank_accepted, refused[UNEQUAL + 1];
 static uint32_t before[LIST], after[LIST], untouched[LIST];
 
 /* Numbers that are the same on every run (splitmix64). */
@@ -107,7 +108,7 @@ static struct silo draw(void) {
     struct silo s = {0};
     s.a = s.b = within(500, one_in(2) ? 5000 : 50000);
     if (one_in(2))
-        *(one_in(2) ? &s.a : &s.b) = within(s.a, 50000);
+        *(one_in(2) ? &s.a : &s.b) = within(s.a, 3 * s.a < 50000 ? 3 * s.a : 50000);
     s.weight = within(1000, 30000);
     s.ratio = within(20, 100);
     s.friction = within(10, 100);
@@ -129,6 +130,7 @@ static void move(struct silo *s) {
         uint32_t *number, limit;
     } limits[] = {
         {&s->a, 0}, {&s->a, 500}, {&s->a, 50000}, {&s->b, 500}, {&s->b, 50000},
+        {&s->a, 3 * s->b}, {&s->b, 3 * s->a}, {&s->b, 4 * s->a},
         {&s->a, filled / 10}, {&s->a, filled - filled / 3}, {&s->a, filled},
         {&s->weight, 0}, {&s->weight, 1000}, {&s->weight, 30000},
         {&s->ratio, 20}, {&s->ratio, 100}, {&s->friction, 10}, {&s->friction, 100},
@@ -281,10 +283,11 @@ static void differ(const struct bytes *sheet, const char *call, uint64_t due, ui
 }
 
 /* The load call with a list of that length: both give that answer and the same list, and write to no more of it than they may. Here and
- * below the earlier library is lent the first sheet, the library the other. */
+ * below the earlier library is lent the first sheet, the library the other. A long bin is lent to no library that calculates it. */
 static void compare_loads(const struct bytes *earlier_sheet, const struct bytes *sheet, size_t list, uint32_t due) {
     size_t filled = GUARDS + (due == 0 ? list : 0);
-    uint32_t earlier = before_loads(earlier_sheet->at, earlier_sheet->length, before + GUARDS, list);
+    bool calculated = long_before && due == UNEQUAL;
+    uint32_t earlier = calculated ? due : before_loads(earlier_sheet->at, earlier_sheet->length, before + GUARDS, list);
     uint32_t answer = silo_loads(sheet->at, sheet->length, after + GUARDS, list);
     bool same = earlier == due && answer == due && memcmp(before, after, sizeof after) == 0;
     bool guarded = memcmp(after, untouched, GUARDS * sizeof *after) == 0;
@@ -296,15 +299,21 @@ static void compare_loads(const struct bytes *earlier_sheet, const struct bytes 
     }
 }
 
-/* The load call with lists of the length due and of one less and one more; a refused sheet is lent lists round the given length. */
-static void compare_lists(const struct bytes *earlier_sheet, const struct bytes *sheet, size_t list, uint64_t answer) {
-    bool fits = answer >= SILO_LENGTH_MARK;
-    if (fits)
-        list = (size_t)(answer - SILO_LENGTH_MARK);
-    compare_loads(earlier_sheet, sheet, list - 1, fits ? WRONG_LENGTH : (uint32_t)answer);
-    compare_loads(earlier_sheet, sheet, list, fits ? 0 : (uint32_t)answer);
-    compare_loads(earlier_sheet, sheet, list + 1, fits ? WRONG_LENGTH : (uint32_t)answer);
-    refused[WRONG_LENGTH] += fits ? 2 : 0;
+/* The load call with lists of the length due and of one less and one more; a sheet without a length is lent lists round the given one. */
+static void compare_lists(const struct bytes *earlier_sheet, const struct bytes *sheet, size_t list, uint32_t refusal) {
+    uint32_t of_others = refusal == 0 ? WRONG_LENGTH : refusal;
+    compare_loads(earlier_sheet, sheet, list - 1, of_others);
+    compare_loads(earlier_sheet, sheet, list, refusal);
+    compare_loads(earlier_sheet, sheet, list + 1, of_others);
+    refused[WRONG_LENGTH] += refusal == 0 ? 2 : 0;
+}
+
+/* The load call's refusal beside the length call's answer: a long bin's is 20, as bench/sheet.c reads it. */
+static uint32_t loads_refusal(const struct bytes *sheet, uint64_t answer) {
+    struct silo s;
+    if (read_call(sheet->at, sheet->length, 0, &s) == UNEQUAL)
+        return UNEQUAL;
+    return answer >= SILO_LENGTH_MARK ? 0 : (uint32_t)answer;
 }
 
 /* Both calls; the length call alone where the earlier one takes what follows the sixth record for bytes left over. */
@@ -315,14 +324,15 @@ static void compare_sheets(const struct bytes *earlier_sheet, const struct bytes
     uint64_t due = behind ? read_length(sheet->at, sheet->length) : earlier;
     if (answer != due || (!fits && answer > GREATEST) || (fits && answer - SILO_LENGTH_MARK > MAX_ANSWERS))
         differ(sheet, "silo_answers_length", due, answer);
+    uint32_t refusal = loads_refusal(sheet, answer);
     if (!behind)
-        compare_lists(earlier_sheet, sheet, list, answer);
+        compare_lists(earlier_sheet, sheet, fits ? (size_t)(answer - SILO_LENGTH_MARK) : list, refusal);
     sheets++;
     read_here += behind;
-    if (fits)
+    if (refusal == 0)
         accepted++;
     else
-        refused[answer]++;
+        refused[refusal]++;
 }
 
 /* Where a blank factor stands, if the second record is a product's and lies whole inside the sheet; else 0. */
@@ -384,6 +394,8 @@ static void print_counts(void) {
     if (blank_is_135_before)
         printf("%" PRIu64 " of them are blank, %" PRIu64 " accepted: with 155 before; as many more with 135, blank before\n", blank,
                blank_accepted);
+    if (long_before)
+        printf("%" PRIu64 " of them are long bins: 20 now, by the rules before C-17 before\n", refused[UNEQUAL]);
     if (no_headroom_before)
         printf("%" PRIu64 " of them go on behind the sixth record: 5 before, now as bench/sheet.c reads them\n", read_here);
 }
@@ -395,6 +407,7 @@ int main(int argc, char **argv) {
         before[i] = after[i] = untouched[i] = UINT32_C(0xA5C35A3C);
     no_headroom_before = knows_no_headroom();
     blank_is_135_before = reads_blank_as_135();
+    long_before = calculates_long_bins();
     while (sheets - read_here < least)
         compare_round();
     print_counts();

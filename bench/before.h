@@ -33,4 +33,13 @@ static inline bool reads_blank_as_135(void) {
     return memcmp(lists[0], lists[1], sizeof lists[0]) == 0;
 }
 
+/* Whether the earlier library is from before C-17: a long bin is calculated. */
+static inline bool calculates_long_bins(void) {
+    uint32_t list[MAX_ANSWERS];
+    struct silo s = tower(1, 1);
+    s.b = 4 * s.a;
+    struct sheet sheet = sheet_of(&s);
+    return before_loads(sheet.bytes, sheet.length, list, sheet.list) == 0;
+}
+
 #endif

@@ -24,6 +24,7 @@ const struct refused REFUSED[] = {
     {"5: a byte left over", 5, .longer = 1, .headroom = 300},
     {"6: diameter below its range", 6, .changes = {{SIDE, 4, 499}}},
     {"6: second side below its range", 6, .changes = {{SIDE + 4, 4, 499}}, .rectangle = true},
+    {"20: sides too unequal", UNEQUAL, .changes = {{SIDE + 4, 4, 18001}}, .rectangle = true},
     {"7: weight below its range", 7, .changes = {{WEIGHT, 4, 999}}},
     {"7: factor above its range", 7, .changes = {{FACTOR, 2, 201}}},
     {"8: inlet too far out", 8, .changes = {{E_I, 4, 1501}}},

@@ -89,11 +89,18 @@ static bool product_fits(const struct silo *s) {
            (s->factor == 0 || between(s->factor, 100, 200));
 }
 
-/* Refusals 6 to 11, 17 and 12, or 0. */
-static uint32_t judge(const struct silo *s) {
+/* One side is over three times the other; both are inside rule 6. */
+static bool is_long(const struct silo *s) {
+    return s->a > 3 * s->b || s->b > 3 * s->a;
+}
+
+/* Refusals 6, 20 where loads are asked for, 7 to 11, 17 and 12, or 0. */
+static uint32_t judge(const struct silo *s, bool loads) {
     uint32_t d_c = width_of(s), foot = foot_of(s);
     if (!between(s->a, 500, 50000) || !between(s->b, 500, 50000))
         return 6;
+    if (loads && is_long(s))
+        return UNEQUAL;
     if (!product_fits(s))
         return 7;
     if (UINT64_C(4) * s->e_i > d_c || UINT64_C(4) * s->e_o > d_c)
@@ -111,26 +118,27 @@ static uint32_t judge(const struct silo *s) {
     return load_depth(s, foot) + s->hopper >= 10 * d_c ? 12 : 0;
 }
 
-uint32_t read_sheet(const uint8_t *sheet, size_t length, struct silo *s) {
+/* The refusal but for 14, or 0 with the silo's numbers, a factor of 0 read as 155. */
+static uint32_t read_sheet(const uint8_t *sheet, size_t length, bool loads, struct silo *s) {
     const uint8_t *payloads[RECORDS];
     uint32_t refusal = find_records(sheet, length, payloads);
     if (refusal != 0)
         return refusal;
     read_numbers(payloads, s);
-    refusal = judge(s);
+    refusal = judge(s, loads);
     if (s->factor == 0)
         s->factor = 155;
     return refusal;
 }
 
 uint32_t read_call(const uint8_t *sheet, size_t sheet_len, size_t answers_len, struct silo *s) {
-    uint32_t refusal = read_sheet(sheet, sheet_len, s);
+    uint32_t refusal = read_sheet(sheet, sheet_len, true, s);
     return refusal == 0 && answers_len != answers_length(s) ? 14 : refusal;
 }
 
 uint64_t read_length(const uint8_t *sheet, size_t length) {
     struct silo s;
-    uint32_t refusal = read_sheet(sheet, length, &s);
+    uint32_t refusal = read_sheet(sheet, length, false, &s);
     return refusal != 0 ? refusal : SILO_LENGTH_MARK + answers_length(&s);
 }
 

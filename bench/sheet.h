@@ -1,5 +1,5 @@
-/* What the measured programs share: a sheet's numbers, its reading with refusals 1 to 12 and 17, its load depths and discharge factors, and
- * the silos whose sheets are measured. */
+/* What the measured programs share: a sheet's numbers, its reading with refusals 1 to 12, 17 and 20, its load depths and discharge factors,
+ * and the silos whose sheets are measured. */
 #ifndef SHEET_H
 #define SHEET_H
 
@@ -17,10 +17,10 @@ struct silo {
     uint32_t strakes[MAX_STRAKES], depths[MAX_DEPTHS];
 };
 
-/* The refusal, 1 to 12 or 17, or 0 with the silo's numbers, a factor of 0 read as 155. */
-uint32_t read_sheet(const uint8_t *sheet, size_t length, struct silo *s);
+/* The refusal of a long bin, which the length call does not judge. */
+enum { UNEQUAL = 20 };
 
-/* The same with refusal 14 as well, for a list of that length. */
+/* The refusal of the load call with a list of that length, or 0 with the silo's numbers, a factor of 0 read as 155. */
 uint32_t read_call(const uint8_t *sheet, size_t sheet_len, size_t answers_len, struct silo *s);
 
 /* The length call as silo.h declares it. */

@@ -54,6 +54,7 @@
  *    4  a payload's length is not one that its kind allows
  *    5  bytes left over after the seventh record; what follows the sixth is judged as the seventh, by 2, 3 and 4
  *    6  d, a or b outside 500..50,000 mm
+ *   20  of a and b the longer over three times the shorter; not tried by the calls that tell a length
  *    7  weight outside 1,000..30,000 N/m3, Ks outside 20..100, mu outside 10..100, or C0 neither 0 nor 100..200
  *    8  an eccentricity e with 4e > d_c
  *    9  a bottom that is neither flat nor a hopper with r >= 1, 2r < d_c, H <= 25,000 and 1,000,000 H >= 363,971 r (a slope
@@ -91,24 +92,26 @@ extern "C" {
 #define SILO_SHELL_REPLY 361
 
 /* Fills the answer list of answers_len numbers for the sheet of sheet_len bytes.
- * Returns 0; or a refusal, 1 to 12, 14 or 17, and the list is as it was. */
+ * Returns 0; or a refusal, 1 to 12, 14, 17 or 20, and the list is as it was. */
 uint32_t silo_loads(const uint8_t *sheet, size_t sheet_len, uint32_t *answers, size_t answers_len);
 
-/* The answer list's length in numbers, 8 times the depths plus 10 plus the strakes.
+/* The answer list's length in numbers, 8 times the depths plus 10 plus the strakes. It is no promise of loads: 20 is not tried here, so
+ * silo_loads refuses some sheets that have a length, and may answer 20 where a later rule is answered here.
  * Returns SILO_LENGTH_MARK plus that length; or a refusal, 1 to 12 or 17. */
 uint64_t silo_answers_length(const uint8_t *sheet, size_t sheet_len);
 
-/* The page's length in bytes, 73 times the depths plus 73, plus 10 times the strakes plus 100; no buffer is asked for.
+/* The page's length in bytes, 73 times the depths plus 73, plus 10 times the strakes plus 100; no buffer is asked for. It is no promise of
+ * a page, as the list's length is none of loads.
  * Returns SILO_LENGTH_MARK plus that length; or a refusal, 1 to 12 or 17. */
 uint64_t silo_page_length(const uint8_t *sheet, size_t sheet_len);
 
 /* Writes the page of the sheet at the start of the buffer of page_len bytes; the bytes past the page keep what they held.
- * Returns 0; or a refusal, 1 to 12, 17 or 18, and the buffer is as it was. */
+ * Returns 0; or a refusal, 1 to 12, 17, 18 or 20, and the buffer is as it was. */
 uint32_t silo_page(const uint8_t *sheet, size_t sheet_len, uint8_t *page, size_t page_len);
 
 /* Fills the reply list of reply_len numbers with the patch round the circular shell that the sheet describes, depth mm below the brim;
  * the depth need not be listed in the sheet.
- * Returns 0; or a refusal, 1 to 12, 17, 19 or 14, and the list is as it was. */
+ * Returns 0; or a refusal, 1 to 12, 17, 20, 19 or 14, and the list is as it was. */
 uint32_t silo_shell_patch(const uint8_t *sheet, size_t sheet_len, uint32_t depth, int32_t *reply, size_t reply_len);
 
 /* Writes the product record of a row of table 7.1 of ENV 1991-4, rows counted from 0 in its order: barley, cement, clinker, dry

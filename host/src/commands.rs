@@ -130,6 +130,17 @@ pub fn page(file: &str, bytes: &[u8]) -> Outcome {
     }
 }
 
+/// Said beside what is written of a rectangle that is too long for loads.
+fn note(file: &str, source: &Source) -> String {
+    match library::verdict(&source.sheet) {
+        Err(Refusal::UNEQUAL_SIDES) => {
+            let refused = failed(file, &source.refused(Refusal::UNEQUAL_SIDES));
+            format!("note: loads, page and drawing of this silo are refused:\n{}", refused.messages)
+        }
+        _ => String::new(),
+    }
+}
+
 /// The sheet of a text. It is written even where the library refuses it.
 pub fn sheet(file: &str, bytes: &[u8]) -> Outcome {
     if let Content::Sheet = Content::of(bytes) {
@@ -140,7 +151,7 @@ pub fn sheet(file: &str, bytes: &[u8]) -> Outcome {
     match source::open(bytes) {
         Err(failure) => failed(file, &failure),
         Ok(source) => match library::answers_length(&source.sheet) {
-            Ok(_) => done(source.sheet),
+            Ok(_) => Outcome { messages: note(file, &source), ..done(source.sheet) },
             Err(refusal) => {
                 let mut outcome = failed(file, &source.refused(refusal));
                 outcome.messages += "the sheet has the numbers as the text has them\n";
@@ -160,7 +171,7 @@ pub fn explain(file: &str, bytes: &[u8]) -> Outcome {
         }
     };
     match opened {
-        Ok(source) => done(text::write(&source.silo)),
+        Ok(source) => Outcome { messages: note(file, &source), ..done(text::write(&source.silo)) },
         Err(failure) => failed(file, &failure),
     }
 }

@@ -139,7 +139,7 @@ impl Description {
 
     /// The library calculates it.
     pub fn is_accepted(&self) -> bool {
-        library::answers_length(&self.to_bytes()).is_ok()
+        library::verdict(&self.to_bytes()).is_ok()
     }
 
     /// The sheet of six records, and of a seventh where there is headroom. At most `MOST_STRAKES` and `MOST_DEPTHS` can be written.

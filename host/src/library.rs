@@ -5,7 +5,7 @@
 pub struct Refusal(pub u32);
 
 /// What refusals 1, 2, .. mean.
-const MEANINGS: [&str; 19] = [
+const MEANINGS: [&str; 20] = [
     "the sheet is over 1024 bytes",
     "a record is cut short",
     "a record's kind is not the one due",
@@ -27,6 +27,8 @@ const MEANINGS: [&str; 19] = [
     "the headroom is the wall's height or more",
     "the page buffer is shorter than the page; lend one of the length that the library says beforehand",
     "the section is a rectangle; the patch goes round the shell of a circle",
+    "the sides are too unequal: the longer is over three times the shorter; such a sheet can be kept and measured, but not \
+     calculated",
 ];
 
 impl Refusal {
@@ -48,6 +50,7 @@ impl Refusal {
     pub const HEADROOM: Refusal = Refusal(17);
     pub const PAGE_LENGTH: Refusal = Refusal(18);
     pub const RECTANGLE: Refusal = Refusal(19);
+    pub const UNEQUAL_SIDES: Refusal = Refusal(20);
 
     pub fn meaning(self) -> &'static str {
         let place = (self.0 as usize).wrapping_sub(1);
@@ -70,16 +73,22 @@ fn length(answer: u64) -> Result<usize, Refusal> {
     }
 }
 
-/// The length of the answer list that is due for a sheet, in numbers.
+/// The length of the answer list that is due for a sheet, in numbers. It is told for sides that are too unequal for loads as well.
 pub fn answers_length(sheet: &[u8]) -> Result<usize, Refusal> {
     // SAFETY: the pointer and the length are those of one slice, which the call only reads.
     length(unsafe { silo_sys::silo_answers_length(sheet.as_ptr(), sheet.len()) })
 }
 
-/// The length of a sheet's load page, in bytes.
+/// The length of a sheet's load page, in bytes; told as that of the answer list.
 pub fn page_length(sheet: &[u8]) -> Result<usize, Refusal> {
     // SAFETY: the pointer and the length are those of one slice, which the call only reads.
     length(unsafe { silo_sys::silo_page_length(sheet.as_ptr(), sheet.len()) })
+}
+
+/// A list or page of the length told, empty where the length is refused: the call that fills it refuses the sheet itself, not always
+/// with the same number.
+fn lent<T: Clone + Default>(length: Result<usize, Refusal>) -> Vec<T> {
+    vec![T::default(); length.unwrap_or(0)]
 }
 
 fn done(answer: u32) -> Result<(), Refusal> {
@@ -97,6 +106,14 @@ pub fn fill_loads(sheet: &[u8], answers: &mut [u32]) -> Result<(), Refusal> {
     })
 }
 
+/// What the load call says of a sheet, without its loads: no answer list is empty, so 14 is the refusal of an accepted sheet.
+pub fn verdict(sheet: &[u8]) -> Result<(), Refusal> {
+    match fill_loads(sheet, &mut []) {
+        Err(Refusal::LIST_LENGTH) => Ok(()),
+        refused => refused,
+    }
+}
+
 /// Writes the load page at the buffer's start; the bytes past it keep what they held. On refusal the buffer is as it was.
 pub fn fill_page(sheet: &[u8], page: &mut [u8]) -> Result<(), Refusal> {
     // SAFETY: each pointer comes with its own slice's length; `page` is borrowed mutably, so it overlaps nothing.
@@ -105,7 +122,7 @@ pub fn fill_page(sheet: &[u8], page: &mut [u8]) -> Result<(), Refusal> {
 
 /// The load page of a sheet: ASCII, in lines.
 pub fn page(sheet: &[u8]) -> Result<Vec<u8>, Refusal> {
-    let mut page = vec![0; page_length(sheet)?];
+    let mut page = lent(page_length(sheet));
     fill_page(sheet, &mut page)?;
     Ok(page)
 }
@@ -151,7 +168,7 @@ pub struct Loads {
 impl Loads {
     /// The loads of a sheet with that many strakes.
     pub fn of(sheet: &[u8], strakes: usize) -> Result<Loads, Refusal> {
-        let mut answers = vec![0; answers_length(sheet)?];
+        let mut answers = lent(answers_length(sheet));
         fill_loads(sheet, &mut answers)?;
         Ok(Loads { answers, strakes })
     }

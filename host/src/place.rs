@@ -30,8 +30,9 @@ pub struct Place {
 const MOST: usize = 5;
 
 /// The rules on a silo's numbers, in the order in which they are tried.
-const RULES: [Refusal; 8] = [
+const RULES: [Refusal; 9] = [
     Refusal::SECTION,
+    Refusal::UNEQUAL_SIDES,
     Refusal::PRODUCT,
     Refusal::ECCENTRICITY,
     Refusal::BOTTOM,
@@ -112,6 +113,7 @@ fn judged(refusal: Refusal, silo: &Description, sizes: &Sizes) -> Vec<Place> {
     let mut found = match refusal {
         Refusal::SHEET_TOO_LONG | Refusal::WRONG_LENGTH => counts(silo),
         Refusal::SECTION => sides(silo.section),
+        Refusal::UNEQUAL_SIDES => unequal(silo.section).into_iter().collect(),
         Refusal::PRODUCT => product(silo),
         Refusal::ECCENTRICITY => eccentricities(silo, sizes),
         Refusal::BOTTOM => bottom(silo, sizes),
@@ -219,6 +221,25 @@ pub fn sides(section: Section) -> Vec<Place> {
             sides.into_iter().flatten().collect()
         }
     }
+}
+
+/// A rectangle with its longer side over three times the shorter. Sides outside their limits are left for later.
+fn unequal(section: Section) -> Option<Place> {
+    let Section::Rectangle(a, b) = section else { return None };
+    let (longer, shorter) = (a.max(b), a.min(b));
+    if !sides(section).is_empty() || longer <= 3 * shorter {
+        return None;
+    }
+    let (most, least) = (3 * shorter, longer.div_ceil(3));
+    let bins = longer.div_ceil(most);
+    let each = longer / bins;
+    let found = format!("the longer, {longer} mm, is over three times the shorter, {shorter} mm");
+    let mend = format!("shorten it to at most {most} mm, widen the shorter to at least {least} mm");
+    let divided = format!("{bins} equal bins of at most {each} mm by {shorter} mm");
+    let why = format!(
+        "{found}; {mend}, or divide it by cross walls into {divided}, each with a sheet of its own"
+    );
+    Some(Place { field: Field::Line(Name::Sides), why })
 }
 
 fn product(silo: &Description) -> Vec<Place> {

@@ -66,6 +66,12 @@ fn description(random: &mut Random, i: usize) -> Description {
     }
 }
 
+/// A rectangle with that shorter side, about three times as long as wide, either side first.
+fn long_section(random: &mut Random, shorter: u32) -> Section {
+    let longer = 3 * shorter + random.of(&[0, 1, 2]) - 1;
+    random.of(&[Section::Rectangle(longer, shorter), Section::Rectangle(shorter, longer)])
+}
+
 /// Mostly accepted, slender or squat; in one of two silos one number may be at fault.
 fn slipped(random: &mut Random) -> Description {
     let mut silo = usual_description(random);
@@ -88,6 +94,7 @@ fn slipped(random: &mut Random) -> Description {
             (silo.filling_eccentricity, silo.hopper_height, silo.hopper_run) = (0, 0, 0);
             silo.section = Section::Circle(silo.height() as u32 / 10 + random.of(&[0, 1]));
         }
+        11 => silo.section = long_section(random, silo.section.shorter_side()),
         _ => (),
     }
     silo
@@ -137,25 +144,29 @@ fn bytes_to_text_and_back_are_the_same() {
         let read = text::read(&text).unwrap_or_else(|errors| panic!("{text}{errors:?}"));
         assert_eq!(read.description.to_bytes(), sheet, "{text}");
         assert_eq!(text::write(&read.description), text);
-        accepted += u32::from(library::answers_length(&sheet).is_ok());
+        accepted += u32::from(library::verdict(&sheet).is_ok());
     }
     println!("20,000 descriptions, of which {accepted} are accepted");
 }
 
-/// The rules on a silo's numbers, in the order in which the library tries them.
-const ORDER: [u32; 8] = [6, 7, 8, 9, 10, 11, 17, 12];
+/// The rules on a silo's numbers, in the order in which the load call tries them; a length is told without 20.
+const ORDER: [u32; 9] = [6, 20, 7, 8, 9, 10, 11, 17, 12];
 
 /// The first refusal for which the tool finds a place is the library's.
 #[test]
 fn explanations_agree_with_the_library() {
     let mut random = Random(611);
-    let mut met = [0; 18];
+    let mut met = [0; 21];
     let mut shapes = [0; 3];
     for i in 0..100_000 {
         let silo = description(&mut random, i);
         let found = |number: &u32| !place::places(Refusal(*number), &silo).is_empty();
-        let verdict = library::answers_length(&silo.to_bytes()).err();
+        let sheet = silo.to_bytes();
+        let verdict = library::verdict(&sheet).err();
         assert_eq!(verdict, ORDER.into_iter().find(found).map(Refusal), "{silo:?}");
+        let of_length = ORDER.into_iter().filter(|number| *number != 20).find(found);
+        let lengths = [library::answers_length(&sheet), library::page_length(&sheet)];
+        assert_eq!(lengths.map(Result::err), [of_length.map(Refusal); 2], "{silo:?}");
         met[verdict.map_or(0, |refusal| refusal.0) as usize] += 1;
         if verdict.is_none() {
             let shape = Discharge::of(&silo).shape;
@@ -164,7 +175,7 @@ fn explanations_agree_with_the_library() {
         }
     }
     println!(
-        "100,000 descriptions, accepted and refused 1 to 17: {met:?}; of each shape {shapes:?}"
+        "100,000 descriptions, accepted and refused 1 to 20: {met:?}; of each shape {shapes:?}"
     );
     let tried = ORDER.iter().all(|number| met[*number as usize] > 0);
     assert!(shapes.iter().all(|count| *count > 1000) && tried);
@@ -173,7 +184,11 @@ fn explanations_agree_with_the_library() {
 type Slip = fn(&mut Description);
 
 /// One number at fault, which breaks a rule and leaves every size alone that another number is measured by.
-const SLIPS: [(u32, Slip); 7] = [
+const SLIPS: [(u32, Slip); 8] = [
+    (20, |silo| {
+        let side = silo.section.shorter_side();
+        silo.section = Section::Rectangle(3 * side + 1, side);
+    }),
     (7, |silo| silo.product.weight = 999),
     (7, |silo| silo.product.friction = 0),
     (8, |silo| silo.filling_eccentricity = 50_000),
@@ -190,7 +205,7 @@ fn all_broken_limits_are_listed() {
     let mut several = 0;
     for _ in 0..20_000 {
         let mut silo = usual_description(&mut random);
-        if library::answers_length(&silo.to_bytes()).is_err() || silo.depths.len() > 199 {
+        if !silo.is_accepted() || silo.depths.len() > 199 {
             continue;
         }
         let mut broken = Vec::new();
@@ -201,7 +216,7 @@ fn all_broken_limits_are_listed() {
             }
         }
         broken.dedup();
-        let first = library::answers_length(&silo.to_bytes()).err().map(|refusal| refusal.0);
+        let first = library::verdict(&silo.to_bytes()).err().map(|refusal| refusal.0);
         assert_eq!(first, broken.first().copied(), "{silo:?}");
         let Some(first) = first else { continue };
         let mut listed: Vec<u32> =
@@ -229,7 +244,7 @@ fn a_headroom_at_fault_is_listed_and_leaves_h_for_later() {
     let mut silo = usual_description(&mut Random(8));
     (silo.section, silo.strakes, silo.depths) = (Section::Circle(2000), vec![2000; 5], vec![0]);
     (silo.hopper_height, silo.hopper_run, silo.headroom) = (0, 0, 10_000);
-    assert_eq!(library::answers_length(&silo.to_bytes()), Err(Refusal::HEADROOM));
+    assert_eq!(library::verdict(&silo.to_bytes()), Err(Refusal::HEADROOM));
     silo.product.weight = 999;
     let why = "no grain is left at the wall; it must be under the sum of the strakes, 10000 mm";
     assert_eq!(
@@ -252,7 +267,7 @@ fn offered_headrooms_are_accepted() {
         let silo = slipped(&mut random);
         let accepted = |headroom: u32| Description { headroom, ..silo.clone() }.is_accepted();
         let why = |refusal| place::places(refusal, &silo).remove(0).why;
-        let mend = match library::answers_length(&silo.to_bytes()) {
+        let mend = match library::verdict(&silo.to_bytes()) {
             Err(Refusal::HEADROOM) => why(Refusal::HEADROOM)
                 .split_once(": ")
                 .map(|(_, mend)| mend.split(", or").next().unwrap_or_default().to_string()),
@@ -269,4 +284,27 @@ fn offered_headrooms_are_accepted() {
     }
     println!("{offered} headrooms offered");
     assert!(offered > 1000);
+}
+
+/// Whatever sides are offered are accepted, and 1 mm beyond them is not.
+#[test]
+fn offered_sides_are_accepted() {
+    let mut random = Random(20);
+    let mut silo = usual_description(&mut random);
+    (silo.strakes, silo.depths, silo.headroom) = (vec![200; 4], vec![0], 0);
+    (silo.filling_eccentricity, silo.hopper_height, silo.hopper_run) = (0, 0, 0);
+    let with = |a, b| Description { section: Section::Rectangle(a, b), ..silo.clone() };
+    let accepted = |a, b| with(a, b).is_accepted();
+    for _ in 0..10_000 {
+        let shorter = 500 + random.below(16_000) as u32;
+        let longer = 3 * shorter + 1 + random.below(50_000 - 3 * shorter as usize) as u32;
+        let why = place::places(Refusal::UNEQUAL_SIDES, &with(longer, shorter)).remove(0).why;
+        let numbers: Vec<u32> = why.split(' ').filter_map(|word| word.parse().ok()).collect();
+        let [long, short, most, least, bins, each, width] = numbers[..] else { panic!("{why}") };
+        assert_eq!([long, short, width], [longer, shorter, shorter]);
+        assert!(accepted(most, shorter) && !accepted(most + 1, shorter), "{why}");
+        assert!(accepted(longer, least) && !accepted(longer, least - 1), "{why}");
+        assert!(accepted(each, shorter) && longer / bins == each, "{why}");
+        assert!(longer > (bins - 1) * most, "fewer bins would do: {why}");
+    }
 }

@@ -527,6 +527,11 @@ fn a_refused_silo_has_a_sheet_alone() {
         "the sheet has the numbers as the text has them\nsilo: b.sheet: sheet written, 126 bytes\n";
     assert_eq!((status, said.ends_with(words)), (1, true), "{said}");
     assert_eq!(folder.get("b.sheet").len(), 126);
+    folder.put("long.silo", &sample("long-store.silo"));
+    let (status, said) = ended(&mut folder.silo(&["sheet", "long.silo", "-o", "l.sheet"]));
+    let words = "each with a sheet of its own\nsilo: l.sheet: sheet written, 102 bytes\n";
+    assert_eq!((status, said.ends_with(words)), (0, true), "{said}");
+    assert!(said.starts_with("note: loads, page and drawing of this silo are refused:\n"));
 }
 
 /// What stands in a page's place is printed, even where a file is named.
@@ -534,11 +539,13 @@ fn a_refused_silo_has_a_sheet_alone() {
 fn a_refused_silo_has_no_page() {
     let folder = Folder::new("pages");
     folder.put("blank.silo", &sample("blank-friction.silo"));
+    folder.put("long.silo", &sample("long-store.silo"));
     folder.put("bad.silo", b"diameter = 5 furlongs\n");
     folder.put("old.page", &sample("cement.page"));
     let before = folder.state();
     for (file, status, printed, words) in [
         ("blank.silo", 1, "REFUSED 7\n", "blank.silo: refused, 7: the product is outside"),
+        ("long.silo", 1, "REFUSED 20\n", "long.silo: refused, 20: the sides are too unequal"),
         ("bad.silo", 2, "", "bad.silo:1: diameter = 5 furlongs: unknown unit"),
         ("none.silo", 2, "", "silo: none.silo: there is no such file\n"),
     ] {

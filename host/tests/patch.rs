@@ -14,6 +14,7 @@ use silos::any_silo;
 type Changes = &'static [(&'static str, &'static str)];
 
 const RECTANGLE: [(&str, &str); 2] = [("diameter", "-"), ("sides", "6 x 5 m")];
+const LONG: [(&str, &str); 2] = [("diameter", "-"), ("sides", "16 x 5 m")];
 
 fn described(text: &str) -> Description {
     text::read(text).unwrap_or_else(|errors| panic!("{text}{errors:?}")).description
@@ -196,8 +197,15 @@ fn a_table_says_where_the_patch_acts() {
 }
 
 /// Refusals of a patch: the number, what is wrong, the lines that differ from an accepted silo, and the depth in mm.
-const REFUSED: [(u32, &str, Changes, u32); 11] = [
+const REFUSED: [(u32, &str, Changes, u32); 13] = [
     (19, "a rectangle", &RECTANGLE, 5000),
+    (20, "a rectangle that is too long", &LONG, 5000),
+    (
+        20,
+        "the sides before friction and the given depth",
+        &[LONG[0], LONG[1], ("friction", "")],
+        10_001,
+    ),
     (11, "below the wall's foot", &[], 10_001),
     (11, "far below the wall's foot", &[], u32::MAX),
     (11, "a listed depth, and the given one is fine", &[("depths", "0, 10001 mm")], 5000),
@@ -233,13 +241,15 @@ fn every_refusal_of_a_patch() {
 #[test]
 fn a_list_of_another_length() {
     let accepted = described(&text_with(&[])).to_bytes();
-    let rectangle = described(&text_with(&RECTANGLE)).to_bytes();
+    let [rectangle, long] =
+        [RECTANGLE, LONG].map(|changes| described(&text_with(&changes)).to_bytes());
     for length in [0, 1, 360, 362, 1000] {
         let mut lent = vec![7; length];
         let mut ask = |sheet: &[u8], depth| library::fill_shell_patch(sheet, depth, &mut lent);
         assert_eq!(ask(&accepted, 5000), Err(Refusal::LIST_LENGTH));
         assert_eq!(ask(&accepted, 10_001), Err(Refusal::DEPTH));
         assert_eq!(ask(&rectangle, 5000), Err(Refusal::RECTANGLE));
+        assert_eq!(ask(&long, 10_001), Err(Refusal::UNEQUAL_SIDES));
         assert_eq!(ask(&[], 0), Err(Refusal::CUT_SHORT));
         assert!(lent.iter().all(|number| *number == 7));
     }

@@ -39,15 +39,17 @@ fn scratch(name: impl AsRef<Path>) -> PathBuf {
     PathBuf::from(env!("CARGO_TARGET_TMPDIR")).join(name)
 }
 
-const SAMPLES: [(&str, i32); 8] = [
-    ("wheat-tower", 0),
-    ("barley-bin", 0),
-    ("cement", 0),
-    ("corrugated-bin", 0),
-    ("flat-store", 0),
-    ("headroom-bin", 0),
-    ("blank-factor", 0),
-    ("blank-friction", 1),
+/// Each with the exit status of its loads and of its sheet.
+const SAMPLES: [(&str, i32, i32); 9] = [
+    ("wheat-tower", 0, 0),
+    ("barley-bin", 0, 0),
+    ("cement", 0, 0),
+    ("corrugated-bin", 0, 0),
+    ("flat-store", 0, 0),
+    ("headroom-bin", 0, 0),
+    ("blank-factor", 0, 0),
+    ("blank-friction", 1, 1),
+    ("long-store", 1, 0),
 ];
 
 /// Outputs of the samples that are not tables: where they are stored, and the command.
@@ -76,6 +78,8 @@ const OUTPUTS: [(&str, &[&str]); 20] = [
 const CORRUGATED: &str = "samples/corrugated-bin.silo";
 const HEADROOM: &str = "samples/headroom-bin.silo";
 const WHEAT: &str = "samples/wheat-tower.silo";
+const BLANK: &str = "samples/blank-friction.silo";
+const LONG: &str = "samples/long-store.silo";
 
 #[test]
 fn samples_as_stored() {
@@ -84,7 +88,7 @@ fn samples_as_stored() {
         file.as_ref().is_ok_and(|file| file.path().extension().is_some_and(|e| e == "silo"))
     });
     assert_eq!(texts.count(), SAMPLES.len());
-    for (name, status) in SAMPLES {
+    for (name, status, _) in SAMPLES {
         let file = format!("samples/{name}.silo");
         let loads = run(&["loads", &file]);
         let page = run(&["page", &file]);
@@ -222,13 +226,15 @@ fn a_depth_in_every_form() {
 /// Text to bytes to text and back, through files; bytes give the loads and the page that the text gives.
 #[test]
 fn sheets_of_the_samples() {
-    for (name, status) in SAMPLES {
+    for (name, _, status) in SAMPLES {
         let text = format!("samples/{name}.silo");
         let [sheet, again] =
             [scratch(format!("{name}.sheet")), scratch(format!("{name}-again.sheet"))];
         let [sheet, again] = [&sheet, &again].map(|path| path.to_str().expect("UTF-8"));
         written(&["sheet", &text, "-o", sheet], status);
-        let explained = written(&["explain", sheet], 0);
+        let explained = run(&["explain", sheet]);
+        assert_eq!(explained.status.code(), Some(0));
+        let explained = explained.stdout;
         stored(&format!("host/tests/golden/{name}.explained"), &explained);
         let output = fed(&["sheet", "-", "-o", again], &explained);
         assert_eq!(output.status.code(), Some(status));
@@ -279,9 +285,7 @@ fn names_of_any_bytes() {
 fn nothing_is_written_for_a_refused_drawing() {
     let file = scratch("refused.svg");
     let output = ["-o", file.to_str().expect("UTF-8")];
-    for drawn in
-        [&["samples/blank-friction.silo"][..], &["samples/flat-store.silo", "--depth", "2 m"]]
-    {
+    for drawn in [&[BLANK][..], &[LONG], &["samples/flat-store.silo", "--depth", "2 m"]] {
         written(&[&["draw"], drawn, &output].concat(), 1);
         assert!(!file.exists());
     }

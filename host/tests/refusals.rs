@@ -12,6 +12,8 @@ type Changes = &'static [(&'static str, &'static str)];
 
 /// Ten times as wide is less than the wall of 10 m.
 const NARROW: (&str, &str) = ("diameter", "900 mm");
+/// A wall of 4.8 m.
+const SHORT: Changes = &[("strakes", "4 x 1200 mm"), ("depths", "every 1200 mm")];
 const TOO_SLENDER_WITH_HEADROOM: Changes =
     &[NARROW, FLAT[0], FLAT[1], FLAT[2], ("headroom", "1 m")];
 
@@ -24,6 +26,46 @@ const TEXTS: &[(u32, &str, Changes)] = &[
     (6, "millimetres taken for metres", &[("diameter", "5000 m")]),
     (6, "a diameter of 0", &[("diameter", "0")]),
     (6, "sides too short and too long", &[("diameter", "-"), ("sides", "499 x 50001 mm")]),
+    (6, "sides too unequal, and one too short", &[("diameter", "-"), ("sides", "499 x 5000 mm")]),
+    (20, "sides too unequal", &[("diameter", "-"), ("sides", "5 x 18 m")]),
+    (20, "side a too long by 1 mm", &[("diameter", "-"), ("sides", "15001 x 5000 mm")]),
+    (20, "side b too long by 1 mm", &[("diameter", "-"), ("sides", "5000 x 15001 mm")]),
+    (
+        20,
+        "the most unequal sides",
+        &[
+            ("diameter", "-"),
+            ("sides", "50 x 0.5 m"),
+            FLAT[0],
+            FLAT[1],
+            FLAT[2],
+            SHORT[0],
+            SHORT[1],
+        ],
+    ),
+    (
+        20,
+        "sides too unequal before everything else",
+        &[
+            ("diameter", "-"),
+            ("sides", "1 x 10 m"),
+            ("friction", ""),
+            ("outlet eccentricity", "251 mm"),
+            ("hopper run", "500 mm"),
+            ("strakes", "10 x 200, 199 mm"),
+            ("depths", "0, 0 mm"),
+        ],
+    ),
+    (
+        20,
+        "sides too unequal before the depths, the headroom and h",
+        &[("diameter", "-"), ("sides", "4 x 1 m"), ("depths", "10001 mm"), ("headroom", "10 m")],
+    ),
+    (
+        20,
+        "sides too unequal, and too slender",
+        &[("diameter", "-"), ("sides", "4 x 1 m"), FLAT[0], FLAT[1], FLAT[2]],
+    ),
     (7, "blank friction", &[("friction", "")]),
     (7, "friction of 0", &[("friction", "0")]),
     (7, "friction in hundredths", &[("friction", "40")]),
@@ -243,7 +285,7 @@ fn every_refusal_of_a_sheet() {
     for (number, title, bytes) in sheets() {
         refused(&mut page, number, title, "tower.sheet", &bytes);
     }
-    for number in (1..=12).chain([17]) {
+    for number in (1..=12).chain([17, 20]) {
         assert!(page.contains(&format!("refused, {number}:")), "refusal {number} is not tried");
     }
     stored("host/tests/golden/refusals.txt", page.as_bytes());
@@ -260,6 +302,33 @@ fn headrooms_that_are_accepted() {
         let outcome = commands::loads("tower.silo", text.as_bytes(), Format::Table, Units::Whole);
         assert_eq!(outcome.status, 0, "{}", outcome.messages);
     }
+}
+
+/// Sides of exactly three times are accepted, either one first, and 1 mm more is refused, or 1 mm less of the shorter.
+#[test]
+fn sides_that_are_accepted() {
+    let loads = |a: u32, b: u32| {
+        let sides = format!("{a} x {b} mm");
+        let text = text_with(&[&FLAT[..], SHORT, &[("diameter", "-"), ("sides", &sides)]].concat());
+        commands::loads("bin.silo", text.as_bytes(), Format::Table, Units::Whole)
+    };
+    for shorter in [500, 501, 5000, 16_665, 16_666] {
+        let longer = 3 * shorter;
+        for (a, b, status) in
+            [(longer, shorter, 0), (longer + 1, shorter, 1), (longer, shorter - 1, 1)]
+        {
+            let outcomes = [loads(a, b), loads(b, a)];
+            assert!(
+                outcomes.iter().all(|outcome| outcome.status == status),
+                "{a}, {b}: {outcomes:?}"
+            );
+        }
+    }
+    assert_eq!(
+        [loads(50_000, 16_667), loads(50_000, 16_666)].map(|outcome| outcome.status),
+        [0, 1]
+    );
+    assert_eq!([loads(500, 500), loads(50_000, 50_000)].map(|outcome| outcome.status), [0, 0]);
 }
 
 /// 14 to 16 and 18 are faults of a host program, which this one does not make.
@@ -302,7 +371,7 @@ fn a_page_is_refused_for_its_sheet_first() {
 #[test]
 fn every_refusal_has_words() {
     let words: String =
-        (0..=20).map(|number| format!("{number}: {}\n", Refusal(number).meaning())).collect();
+        (0..=21).map(|number| format!("{number}: {}\n", Refusal(number).meaning())).collect();
     stored("host/tests/golden/meanings.txt", words.as_bytes());
 }
 
@@ -312,6 +381,10 @@ fn a_refusal_in_json() {
     let outcome = commands::loads("blank-friction.silo", &blank, Format::Json, Units::Whole);
     assert_eq!((outcome.status, outcome.messages.as_str()), (1, ""));
     stored("host/tests/golden/refusal.json", &outcome.output);
+    let long = text_with(&[("diameter", "-"), ("sides", "5 x 18 m"), ("friction", "")]);
+    let outcome = commands::loads("long.silo", long.as_bytes(), Format::Json, Units::Whole);
+    assert_eq!((outcome.status, outcome.messages.as_str()), (1, ""));
+    stored("host/tests/golden/unequal-sides.json", &outcome.output);
     let many = text_with(&[("diameter", "5 mm"), ("friction", ""), ("depths", "6, 5 mm")]);
     let outcome = commands::loads("many.silo", many.as_bytes(), Format::Json, Units::Whole);
     assert_eq!((outcome.status, outcome.messages.as_str()), (1, ""));

@@ -499,7 +499,7 @@ fn damaged_texts_give_errors_with_lines_and_never_a_panic() {
                 let sheet = silo.description.to_bytes();
                 let outcome =
                     commands::loads("damaged.silo", text.as_bytes(), Format::Table, Units::Whole);
-                let refused = silo::library::answers_length(&sheet).is_err();
+                let refused = silo::library::verdict(&sheet).is_err();
                 assert_eq!(outcome.status, u8::from(refused), "{text}");
                 accepted += u32::from(!refused);
             }

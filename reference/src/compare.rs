@@ -1,10 +1,10 @@
-//! The comparison of a library with document 01 and with C-11 and C-13 to C-16 of document 02, for sheets of any kind.
+//! The comparison of a library with document 01 and with C-11 and C-13 to C-17 of document 02, for sheets of any kind.
 //!
 //! For an accepted sheet: filling pressures and P_w inside their bands, each load made from filling equal to its formula over the
 //! filling pressures and inside its allowance, all at the load depth, nothing falling with depth; the page of these numbers, and the patch
-//! round its shell at depths given with it. For a refused one: its number from every call, and lists and buffer as they were. For a sheet of
-//! six records, accepted or not: the same with a headroom of 0. For every sheet made blank, accepted or not: the same with 155 and with 135
-//! written in.
+//! round its shell at depths given with it. For a refused one: its number from every call, and lists and buffer as they were; but the length
+//! calls measure a long bin, or tell its next refusal. For a sheet of six records, accepted or not: the same with a headroom of
+//! 0. For every sheet made blank, accepted or not: the same with 155 and with 135 written in.
 
 mod pages;
 mod shell;
@@ -12,21 +12,24 @@ mod shell;
 use crate::calls::{expect, Calls, Difference, Library, Outcome, UNTOUCHED, UNTOUCHED_BYTE};
 use crate::formulas::{self, Discharge, Filling};
 use crate::fraction::{fraction, least, whole, Fraction, Real};
-use crate::sheet::{parse, records, with_factor, Silo};
+use crate::sheet::{measure, parse, records, told, with_factor, Silo};
 use crate::{catalogue, governing, page};
 use pages::{BUFFERS, DIGITS, EACH, EXACT};
 use shell::{ANSWERS, GIVEN, INSIDE};
 use std::fmt;
 use std::ops::Range;
 
-/// The refusals of the load and page calls and of their length calls, in their order; 13 is retired.
-pub const REFUSALS: [usize; 15] = [1, 2, 3, 4, 5, 6, 7, 8, 9, 10, 11, 17, 12, 14, 18];
+/// The refusals of the load and page calls and, but for 20, of their length calls, in their order; 13 is retired.
+pub const REFUSALS: [usize; 16] = [1, 2, 3, 4, 5, 6, 20, 7, 8, 9, 10, 11, 17, 12, 14, 18];
 
 /// Those of a list or buffer, lent with an accepted sheet.
 const OF_LENGTH: [usize; 2] = [14, 18];
 
 /// Room for a count by the number of a refusal.
-const NUMBERS: usize = 20;
+const NUMBERS: usize = 21;
+
+/// What the length calls tell of a long bin, which the others refuse with 20.
+const TOLD: [&str; 2] = ["a length", "a later refusal"];
 
 /// Kinds of silos by h/d_c: the three of the discharge factors, their limits apart.
 const SHAPES: [&str; 5] = ["below 1", "1", "between 1 and 1.5", "1.5", "above 1.5"];
@@ -36,6 +39,17 @@ fn shape(silo: &Silo) -> usize {
     let (h, d_c) = (silo.height(), silo.d_c());
     let limits = [h >= d_c, h > d_c, 2 * h >= 3 * d_c, 2 * h > 3 * d_c];
     limits.into_iter().filter(|reached| *reached).count()
+}
+
+/// Kinds of silos by their section.
+const SECTIONS: [&str; 3] = ["circle", "rectangle", "rectangle of three times its width"];
+
+fn section(silo: &Silo) -> usize {
+    match silo.section[..] {
+        [a, b] if a.max(b) == 3 * a.min(b) => 2,
+        [_, _] => 1,
+        _ => 0,
+    }
 }
 
 /// Kinds of silos with a blank factor by h/d_c: C_h is 1, rests on h, or is C0.
@@ -68,8 +82,9 @@ const PLACES: [&str; 3] = ["above the surface", "at it", "below"];
 /// What was compared.
 #[derive(Default)]
 pub struct Tally {
-    /// Accepted sheets by h/d_c, and by headroom; those of them with a blank factor by h/d_c.
+    /// Accepted sheets by h/d_c, by section, and by headroom; those of them with a blank factor by h/d_c.
     shapes: [u64; SHAPES.len()],
+    sections: [u64; SECTIONS.len()],
     headrooms: [u64; HEADROOMS.len()],
     blanks: [u64; BLANKS.len()],
     /// Sheets that are made blank, each beside the same with 135 and with 155: accepted ones, and refused ones by number.
@@ -77,6 +92,8 @@ pub struct Tally {
     blank_refused: [u64; NUMBERS],
     /// Sheets by the number of their refusal; at 14 lists of a wrong length and at 18 short buffers, each lent with an accepted sheet.
     pub refused: [u64; NUMBERS],
+    /// Long bins by what the length calls tell of them.
+    long: [u64; TOLD.len()],
     /// Page calls by the number of the sheet's refusal, 0 for an accepted one, and by their buffer.
     pages: [[u64; BUFFERS.len()]; NUMBERS],
     /// Shell patch calls by the number of the sheet's refusal, 0 for an accepted one, and by their answer; those with a reply by their depth.
@@ -117,12 +134,13 @@ impl Tally {
     }
 
     /// The kinds that accepted sheets, their rows, page calls and shell patch calls are told apart by, with the count of each.
-    fn kinds(&self) -> [(&str, Vec<(&str, u64)>); 8] {
+    fn kinds(&self) -> [(&str, Vec<(&str, u64)>); 9] {
         let counted = |names: &[&'static str], counts: &[u64]| {
             names.iter().copied().zip(counts.iter().copied()).collect()
         };
         [
             ("accepted, by h/d_c", counted(&SHAPES, &self.shapes)),
+            ("accepted, by section", counted(&SECTIONS, &self.sections)),
             ("accepted, by headroom", counted(&HEADROOMS, &self.headrooms)),
             ("accepted with a blank factor, by h/d_c", counted(&BLANKS, &self.blanks)),
             ("accepted and made blank, beside 135", counted(&BESIDE, &self.beside)),
@@ -154,6 +172,9 @@ impl fmt::Display for Tally {
             writeln!(f, "{kind}: {}", counts.join(", "))?;
         }
         writeln!(f, "refused, by number: {}", refused.join(", "))?;
+        let long = TOLD.iter().zip(self.long).map(|(name, n)| format!("{name}: {n}"));
+        let long: Vec<_> = long.collect();
+        writeln!(f, "refused with 20, by what the length calls tell: {}", long.join(", "))?;
         let blank_refused: u64 = self.blank_refused.iter().sum();
         writeln!(f, "refused and made blank, beside 135 and 155: {blank_refused}")?;
         let refused_pages: u64 = self.pages[1..].iter().flatten().sum();
@@ -199,9 +220,8 @@ impl<'a> Comparison<'a> {
         Comparison { calls, loads_alone: false, tally: Tally::default() }
     }
 
-    /// Prints what was compared; an accepted sheet of each kind and each of these refusals, also with a blank factor, have to be among it,
-    /// a page call with each buffer for an accepted sheet and for each of these refusals, and a shell patch call with each, also with 11 for
-    /// the given depth in the place of 17 and 12.
+    /// Prints what was compared; an accepted sheet of each kind and each of these refusals have to be among it, those of a sheet as
+    /// `is_reached` asks for, and where 20 is one, long bins that the length calls measure and others that they refuse.
     pub fn report(&self, refusals: impl IntoIterator<Item = usize>) {
         println!("{}", self.tally);
         for (kind, counts) in self.tally.kinds() {
@@ -211,19 +231,27 @@ impl<'a> Comparison<'a> {
         }
         for number in refusals {
             assert!(self.tally.refused[number] > 0, "refusal {number} was never reached");
-            if OF_LENGTH.contains(&number) {
-                continue;
+            if !OF_LENGTH.contains(&number) {
+                self.is_reached(number);
             }
-            let blank = self.tally.blank_refused[number] > 0;
-            assert!(blank, "refusal {number} was never reached with a blank factor");
-            for (buffer, count) in self.tally.page_calls(number) {
-                assert!(count > 0, "refusal {number}: no page buffer is {buffer}");
+            for (name, count) in TOLD.iter().zip(self.tally.long) {
+                assert!(number != 20 || count > 0, "the length calls never tell {name}");
             }
-            let patches = self.tally.patches[number];
-            assert!(patches[number] > 0, "refusal {number}: no shell patch call");
-            let first = ![17, 12].contains(&number) || patches[11] > 0;
-            assert!(first, "refusal {number}: no given depth is over V");
         }
+    }
+
+    /// A sheet with that refusal was also made blank, and there was a page call with each buffer for it and a shell patch call, also with 11
+    /// for the given depth in the place of 17 and 12.
+    fn is_reached(&self, number: usize) {
+        let blank = self.tally.blank_refused[number] > 0;
+        assert!(blank, "refusal {number} was never reached with a blank factor");
+        for (buffer, count) in self.tally.page_calls(number) {
+            assert!(count > 0, "refusal {number}: no page buffer is {buffer}");
+        }
+        let patches = self.tally.patches[number];
+        assert!(patches[number] > 0, "refusal {number}: no shell patch call");
+        let first = ![17, 12].contains(&number) || patches[11] > 0;
+        assert!(first, "refusal {number}: no given depth is over V");
     }
 
     /// Compares any bytes; `lengths` are those of the lists that a refused sheet is lent with.
@@ -241,6 +269,9 @@ impl<'a> Comparison<'a> {
     fn refused(&mut self, bytes: &[u8], refusal: u64, lengths: &[usize]) -> Outcome {
         self.refusal(bytes, refusal, lengths)?;
         self.tally.refused[refusal as usize] += 1;
+        if refusal == 20 {
+            self.tally.long[usize::from(measure(bytes).is_err())] += 1;
+        }
         self.refused_blank(bytes, lengths)?;
         match records(bytes) {
             Ok(silo) => self.zero_headroom(&silo, lengths),
@@ -248,13 +279,24 @@ impl<'a> Comparison<'a> {
         }
     }
 
-    /// The number from every call, and each list and buffer as it was.
+    /// The number from every call for loads, and each list and buffer as it was. A sheet that is measured is also lent lists of the length
+    /// due, and of one less and one more.
     fn refusal(&mut self, bytes: &[u8], refusal: u64, lengths: &[usize]) -> Outcome {
-        let told = self.calls.answers_length(bytes)?;
-        expect(told == refusal, bytes, || format!("answers_length {told}, refusal {refusal} due"))?;
-        lengths.iter().try_for_each(|length| self.untouched(bytes, refusal, *length))?;
+        let length = self.told(bytes)?;
+        beside_length(bytes, refusal, length)?;
+        let due = measure(bytes).map(|silo| silo.answers_length());
+        let round = due.into_iter().flat_map(|due| [due - 1, due, due + 1]);
+        let mut lengths = lengths.iter().copied().chain(round);
+        lengths.try_for_each(|length| self.untouched(bytes, refusal, length))?;
         self.pages(bytes, Err(refusal), EACH)?;
         self.patches(bytes, refusal)
+    }
+
+    /// What the length call tells, which is as due.
+    fn told(&self, bytes: &[u8]) -> Result<u64, Difference> {
+        let (length, due) = (self.calls.answers_length(bytes)?, told(bytes, Silo::answers_length));
+        expect(length == due, bytes, || format!("answers_length {length}, {due} due"))?;
+        Ok(length)
     }
 
     /// A refused sheet with a whole product record, its factor made blank: still refused, and alike with 135 and 155, since each of these
@@ -331,12 +373,9 @@ impl<'a> Comparison<'a> {
         silo: &Silo,
         buffers: Range<usize>,
     ) -> Result<Vec<u64>, Difference> {
-        let (bytes, due) = (silo.sheet(), silo.answers_length());
-        let told = self.calls.answers_length(&bytes)?;
-        expect(told == (1 << 32) + due as u64, &bytes, || {
-            format!("answers_length {told}, 2^32 + {due} due")
-        })?;
-        let (answer, list) = self.calls.loads(&bytes, due)?;
+        let bytes = silo.sheet();
+        self.told(&bytes)?;
+        let (answer, list) = self.calls.loads(&bytes, silo.answers_length())?;
         expect(answer == 0, &bytes, || format!("answer {answer} for an accepted sheet"))?;
         let list: Vec<u64> = list.into_iter().map(u64::from).collect();
         self.pages(&bytes, Ok((silo, &list)), buffers)?;
@@ -376,6 +415,7 @@ impl<'a> Comparison<'a> {
         self.zero_headroom(silo, &[list.len(), list.len() + 1])?;
         self.blank_factor(silo)?;
         self.tally.shapes[shape(silo)] += 1;
+        self.tally.sections[section(silo)] += 1;
         self.tally.headrooms[headroom(silo)] += 1;
         self.tally.blanks[blank(silo)] += u64::from(silo.factor == 0);
         self.tally.strakes += silo.strakes.len() as u64;
@@ -488,6 +528,13 @@ impl<'a> Comparison<'a> {
         })?;
         Ok(answer)
     }
+}
+
+/// Whatever the calls judge by: a refusal for loads is the one that the length call tells, or 20; it is 20 where that tells a length.
+fn beside_length(bytes: &[u8], refusal: u64, told: u64) -> Outcome {
+    expect([told, 20].contains(&refusal), bytes, || {
+        format!("refusal {refusal}, while the length call tells {told}")
+    })
 }
 
 fn rows(silo: &Silo, list: &[u64]) -> Vec<Row> {

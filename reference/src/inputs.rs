@@ -101,6 +101,23 @@ pub fn silo(random: &mut Random) -> Silo {
     }
 }
 
+/// A long bin, which is refused for loads alone: an accepted silo that leaves room for a side of over three times d_c, with such a side.
+pub fn long(random: &mut Random) -> Silo {
+    loop {
+        let silo = silo(random);
+        let short = silo.d_c();
+        if 3 * short < 50_000 {
+            let long = random.within(3 * short + 1, 50_000);
+            return Silo { section: sides(random, short, long), ..silo };
+        }
+    }
+}
+
+/// A rectangle with either side first.
+fn sides(random: &mut Random, short: u64, long: u64) -> Vec<u64> {
+    random.pick(&[vec![short, long], vec![long, short]])
+}
+
 /// A silo with depth 0 alone.
 fn candidate(random: &mut Random) -> Silo {
     let shorter = match random.below(3) {
@@ -108,7 +125,7 @@ fn candidate(random: &mut Random) -> Silo {
         1 => random.within(500, 12_000),
         _ => random.within(500, 50_000),
     };
-    let longer = random.within(shorter, 50_000);
+    let longer = random.within(shorter, (3 * shorter).min(50_000));
     let section = random.pick(&[vec![shorter], vec![shorter, longer], vec![longer, shorter]]);
     let d_c = shorter;
     let (hopper_height, run) = hopper(random, d_c);
@@ -362,7 +379,7 @@ fn past_a_limit(random: &mut Random, mut silo: Silo) -> Silo {
         let strake = random.below(silo.strakes.len() as u64) as usize;
         let depth = random.below(silo.depths.len() as u64) as usize;
         let (foot, over) = (silo.foot(), silo.foot() + silo.hopper_height);
-        match random.below(17) {
+        match random.below(18) {
             0 => silo.section[0] = near(random, &[500, 50_000, 0, u32::MAX.into()]),
             1 => silo.weight = near(random, &[1_000, 30_000, 0, u32::MAX.into()]),
             2 => silo.ratio = near(random, &[20, 100, 0]),
@@ -379,6 +396,10 @@ fn past_a_limit(random: &mut Random, mut silo: Silo) -> Silo {
             13 => stretch(&mut silo, near(random, &[d_c, 3 * d_c / 2])),
             14 => silo.headroom = Some(near(random, &[foot, foot, 0, 65_536, u32::MAX.into()])),
             15 => silo.headroom = Some(near(random, &[silo.depths[depth]])),
+            16 => {
+                let long = near(random, &[3 * d_c, 50_000]);
+                silo.section = sides(random, d_c, long);
+            }
             _ => {
                 let heights = [10 * d_c, d_c, 3 * d_c / 2];
                 let limits = heights.map(|height| over.saturating_sub(height));

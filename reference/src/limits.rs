@@ -1,11 +1,32 @@
-//! Every limit of document 01, and of C-11 and C-13 to C-16 of document 02: sheets with the value at it, below it and above it, each with
-//! the number due; 0 is acceptance.
+//! Every limit of document 01, and of C-11 and C-13 to C-17 of document 02: sheets with the value at it, below it and above it, each with
+//! the numbers due; 0 is acceptance.
 
 use crate::inputs::{equal_strakes, sample};
 use crate::sheet::{record, Silo};
 
-/// A sheet and the number of its refusal, or 0.
-pub type Due = (Vec<u8>, u64);
+/// A sheet and the number of its refusal, or 0: from the calls for loads, and from those that only tell a length.
+#[derive(Clone)]
+pub struct Due {
+    pub sheet: Vec<u8>,
+    pub loads: u64,
+    pub length: u64,
+}
+
+impl Due {
+    /// A sheet that breaks a rule and a later one, each 0 where there is none. The calls that only tell a length do not judge 20.
+    pub fn of(sheet: Vec<u8>, rule: u64, later: u64) -> Due {
+        Due { sheet, loads: rule, length: if rule == 20 { later } else { rule } }
+    }
+}
+
+/// A sheet and the one rule that it breaks, or 0.
+pub type Single = (Vec<u8>, u64);
+
+impl From<Single> for Due {
+    fn from((sheet, rule): Single) -> Due {
+        Due::of(sheet, rule, 0)
+    }
+}
 
 const MAX: u64 = u32::MAX as u64;
 
@@ -98,21 +119,16 @@ const ECCENTRICITIES: &[(u64, u64)] =
     &[(0, 0), (1_249, 0), (1_250, 0), (1_251, 8), (1 << 30, 8), ((1 << 30) + 1, 8), (MAX, 8)];
 
 pub fn sheets() -> Vec<Due> {
-    let values = [
-        numbers(),
-        sides(),
-        eccentricities(),
-        slopes(),
-        strakes(),
-        depths(),
-        headrooms(),
-        heights(),
-    ];
+    let values =
+        [numbers(), eccentricities(), slopes(), strakes(), depths(), headrooms(), heights()];
+    let values = values.concat();
+    let long = long_bins(&values);
     let accepted =
         [factors(), lowest(), pages(), patches()].concat().into_iter().map(|silo| (silo, 0));
-    let silos = values.concat().into_iter().chain(whole_loads()).chain(accepted);
+    let silos = [sides(), unequal(), values, whole_loads()].concat().into_iter().chain(accepted);
     let sheets = silos.map(|(silo, due)| (silo.sheet(), due));
-    [cut_or_extended(), kinds(), lengths()].concat().into_iter().chain(sheets).collect()
+    let damaged = [cut_or_extended(), kinds(), lengths()].concat();
+    damaged.into_iter().chain(sheets).map(Due::from).chain(long).collect()
 }
 
 fn numbers() -> Vec<(Silo, u64)> {
@@ -152,17 +168,53 @@ pub fn under_headroom(section: &[u64], height: u64, hopper: (u64, u64), g: u64) 
 
 const FLAT: (u64, u64) = (0, 0);
 
-/// Rule 6: each side of each shape.
+/// Rule 6: each side of each shape, beside one that is not too unequal; outside the limits also beside one that is.
 fn sides() -> Vec<(Silo, u64)> {
+    let inside = [(500, 1_500), (501, 1_000), (49_999, 20_000), (50_000, 16_667)];
+    let outside = [0, 499, 50_001, 65_536 + 5_000, 1 << 31, MAX];
+    let outside = outside.into_iter().flat_map(|side| [(side, 1_400), (side, 20_000)]);
     let mut silos = Vec::new();
-    for side in [0, 499, 500, 501, 49_999, 50_000, 50_001, 65_536 + 5_000, 1 << 31, MAX] {
+    for (side, other) in inside.into_iter().chain(outside) {
         let due = if (500..=50_000).contains(&side) { 0 } else { 6 };
-        for section in [vec![side], vec![side, 20_000], vec![20_000, side], vec![side, side]] {
+        for section in [vec![side], vec![side, other], vec![other, side], vec![side, side]] {
             let d_c = section.iter().fold(50_000, |least, side| *side.min(&least));
             silos.push((of_height(&section, 2 * d_c, FLAT), due));
         }
     }
     silos
+}
+
+/// Rule 20: either side long, equal to the short one, at three times it and next to that, at six times, and as long as there is; level with
+/// the brim and under headrooms. Three times 16,667 is over every side, and three times 21,846 is 2 in 16 bits.
+fn unequal() -> Vec<(Silo, u64)> {
+    let mut silos = Vec::new();
+    let narrow = [500, 501, 1_000, 5_000, 9_999, 16_665, 16_666].map(|short| (short, 20));
+    let wide = [16_667, 20_000, 21_845, 21_846, 50_000].map(|short| (short, 0));
+    for (short, longest) in narrow.into_iter().chain(wide) {
+        let most = 3 * short;
+        let longs = [
+            (short, 0),
+            (most - 1, 0),
+            (most, 0),
+            (most + 1, 20),
+            (2 * most, 20),
+            (50_000, longest),
+        ];
+        for (long, due) in longs.into_iter().filter(|(long, _)| *long <= 50_000) {
+            for section in [vec![short, long], vec![long, short]] {
+                let each = each_headroom(&section, (2 * short).min(40_000), FLAT);
+                silos.extend(each.into_iter().map(|silo| (silo, due)));
+            }
+        }
+    }
+    silos
+}
+
+/// Silos with the number due, as long bins where they are narrow enough: the length calls alone answer it.
+fn long_bins(silos: &[(Silo, u64)]) -> Vec<Due> {
+    let narrow = silos.iter().filter(|(silo, _)| silo.d_c() <= 16_666);
+    let long = |silo: &Silo| Silo { section: vec![silo.d_c(), 50_000], ..silo.clone() };
+    narrow.map(|(silo, due)| Due::of(long(silo).sheet(), 20, *due)).collect()
 }
 
 /// Rule 8 where d_c is no multiple of 4, and is the shorter side.
@@ -258,9 +310,9 @@ fn headrooms() -> Vec<(Silo, u64)> {
 /// Odd and even d_c that a wall can be ten times as high as.
 const WIDTHS: [u64; 7] = [500, 501, 1_999, 2_000, 5_000, 5_001, 7_199];
 
-/// A circle, and rectangles with the shorter side first and second.
+/// A circle, and rectangles with the shorter side first and second, the longer one up to three times as long.
 fn sections(d_c: u64) -> [Vec<u64>; 3] {
-    let longer = d_c.max(9_000);
+    let longer = (3 * d_c).min(9_000).max(d_c);
     [vec![d_c], vec![d_c, longer], vec![longer, d_c]]
 }
 
@@ -335,7 +387,7 @@ fn lowest() -> Vec<Silo> {
     for section in [vec![50_000], vec![50_000, 50_000]] {
         silos.extend([FLAT, (25_000, 24_999)].map(|hopper| lowest(&section, hopper)));
     }
-    for section in [vec![500], vec![500, 50_000], vec![50_000, 500]] {
+    for section in [vec![500], vec![500, 1_500], vec![1_500, 500]] {
         let hoppers = [0, 299, 300, 301, 549, 550, 551].map(|height| (height, height.min(200)));
         silos.extend(hoppers.map(|hopper| lowest(&section, hopper)));
     }
@@ -400,7 +452,7 @@ fn longest() -> Silo {
 
 /// Rules 1, 2 and 5: a short sheet and the longest there is, of seven records, cut short at every byte, whole, and longer; the same of six
 /// records and longer. The sixth record may be the last.
-fn cut_or_extended() -> Vec<Due> {
+fn cut_or_extended() -> Vec<Single> {
     let short = Silo { headroom: Some(1_000), ..sample() };
     let zeros = [(4, 3), (1_024, 3), (1_025, 1)].map(|(length, due)| (vec![0; length], due));
     let mut sheets = zeros.to_vec();
@@ -418,7 +470,7 @@ fn cut_or_extended() -> Vec<Due> {
 }
 
 /// A sheet with bytes of 0 behind it, and what is due to so many; too long a sheet.
-fn extended(whole: &[u8], due: impl Fn(usize) -> u64) -> Vec<Due> {
+fn extended(whole: &[u8], due: impl Fn(usize) -> u64) -> Vec<Single> {
     let with = |length: usize, due: u64| {
         let mut sheet = whole.to_vec();
         sheet.resize(length, 0);
@@ -447,7 +499,7 @@ fn joined(records: &[(u16, Vec<u8>)]) -> Vec<u8> {
 
 /// Rule 3: each record under every small kind, and under kinds that differ in the upper byte. A circle under a rectangle's kind, or the
 /// other way round, has a wrong length.
-fn kinds() -> Vec<Due> {
+fn kinds() -> Vec<Single> {
     let mut sheets = Vec::new();
     let rectangle = Silo { section: vec![5_000, 6_000], headroom: Some(1_000), ..sample() };
     for silo in [sample(), rectangle] {
@@ -470,7 +522,7 @@ fn kinds() -> Vec<Due> {
 }
 
 /// Rule 4: payloads of each kind, of every length round those allowed.
-fn lengths() -> Vec<Due> {
+fn lengths() -> Vec<Single> {
     // Bytes of a number or a payload, and how many of them at most.
     let allowed = [(4, 1), (10, 1), (8, 1), (8, 1), (2, 24), (4, 200), (4, 1)];
     let mut sheets = stated_lengths();
@@ -484,7 +536,7 @@ fn lengths() -> Vec<Due> {
 }
 
 /// The same of the headroom, stated alone: 4 and 8 bytes are there.
-fn stated_lengths() -> Vec<Due> {
+fn stated_lengths() -> Vec<Single> {
     let six = sample().sheet();
     let mut sheets = Vec::new();
     for length in (0..=20).chain([255, 256, 260, 1_024, 0x8004, 65_535]) {
@@ -502,7 +554,7 @@ fn stated_lengths() -> Vec<Due> {
 }
 
 /// The sample with depth 0 alone and a headroom, and one payload from a sheet of the longest ones, cut to a length or extended.
-fn resized(place: usize, length: usize, due: u64) -> Due {
+fn resized(place: usize, length: usize, due: u64) -> Single {
     let mut changed = records(&Silo { depths: vec![0], headroom: Some(1_000), ..sample() }.sheet());
     changed[place] = records(&longest().sheet()).swap_remove(place);
     changed[place].1.resize(length, 0);

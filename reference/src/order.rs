@@ -1,17 +1,20 @@
-//! Sheets that break two rules at once: the first one in the order of document 01, with 17 of C-13 between 11 and 12, is the refusal. Of the
-//! shell patch call a rectangle breaks one more, as do depths over V and other lists, which are given with every sheet.
+//! Sheets that break two rules at once: the first one in the order of document 01, with 17 of C-13 between 11 and 12 and 20 of C-17 between
+//! 6 and 7, is the refusal; where that is 20, the other one is what the length calls answer. Of the shell patch call a rectangle breaks one
+//! more, as do depths over V and other lists, which are given with every sheet.
 
 use crate::inputs::sample;
-use crate::limits::Due;
+use crate::limits::{Due, Single};
 use crate::sheet::Silo;
 
 type Break = fn(&mut Silo);
 type Damage = fn(&mut Vec<u8>, usize);
 
-/// Ways to break each rule from 6 to 12, in their order, that leave the others as they are and can be joined with any. The hopper alone is
-/// too high for 12, whatever the headroom.
-const VALUES: [(u64, Break); 10] = [
-    (6, |silo| silo.section = vec![silo.section[0], 50_001]),
+/// Ways to break each rule from 6 to 12, in their order, that leave the others as they are and can be joined with any; but most silos that
+/// break 6 are long too. The hopper alone is too high for 12, whatever the headroom.
+const VALUES: [(u64, Break); 12] = [
+    (6, |silo| silo.section = vec![silo.d_c(), 50_001]),
+    (20, |silo| silo.section = vec![silo.d_c().min(16_666), 50_000]),
+    (20, |silo| silo.section = vec![50_000, silo.d_c().min(16_666)]),
     (7, |silo| silo.weight = 999),
     (7, |silo| silo.factor = 99),
     (8, |silo| silo.e_o = u32::MAX.into()),
@@ -21,7 +24,7 @@ const VALUES: [(u64, Break); 10] = [
     (17, |silo| silo.headroom = Some(silo.foot())),
     (17, |silo| silo.headroom = Some(u32::MAX.into())),
     (12, |silo| {
-        silo.section[0] = 900;
+        silo.section.fill(900);
         (silo.hopper_height, silo.run) = (9_000, 400);
     }),
 ];
@@ -34,8 +37,8 @@ const RECORD: [(u64, Damage); 4] = [
     (4, |sheet, at| sheet[at] += 1),
 ];
 
-/// Silos of 9 m under several widths: slender, at h = 1.5·d_c, squat, at h = d_c and below it, and a rectangle; level with the brim and under
-/// a headroom; with C0 blank and written. No rule's place is taken by the shape or by the factor.
+/// Silos of 9 m under several widths: slender, at h = 1.5·d_c, squat, at h = d_c and below it, and rectangles, one of them at the limit of
+/// 20; level with the brim and under a headroom; with C0 blank and written. No rule's place is taken by the shape or by the factor.
 fn silos() -> Vec<Silo> {
     let walls = [(None, 1_800), (Some(0), 1_800), (Some(1_000), 2_000)];
     let of_section = |section: Vec<u64>| {
@@ -49,19 +52,21 @@ fn silos() -> Vec<Silo> {
         written.into_iter().flat_map(|silo| [Silo { factor: 0, ..silo.clone() }, silo])
     };
     let circles = [5_000, 6_000, 8_000, 9_000, 20_000].map(|width| vec![width]);
-    circles.into_iter().chain([vec![5_000, 6_000]]).flat_map(of_section).collect()
+    let rectangles = [vec![5_000, 6_000], vec![5_000, 15_000]];
+    circles.into_iter().chain(rectangles).flat_map(of_section).collect()
 }
 
 pub fn sheets() -> Vec<Due> {
     let of_silo = |silo: &Silo| {
-        let unbroken = vec![(silo.sheet(), 0)];
-        [unbroken, two_values(silo), record_and_value(silo)].concat()
+        let unbroken = Due::of(silo.sheet(), 0, 0);
+        let damaged = record_and_value(silo).into_iter().map(Due::from);
+        [unbroken].into_iter().chain(two_values(silo)).chain(damaged)
     };
     let of_sheet = |headroom| {
         let whole = Silo { headroom, ..sample() }.sheet();
         [two_records(&whole), one_record(&whole)].concat()
     };
-    let sheets = [None, Some(1_000)].into_iter().flat_map(of_sheet);
+    let sheets = [None, Some(1_000)].into_iter().flat_map(of_sheet).map(Due::from);
     silos().iter().flat_map(of_silo).chain(sheets).collect()
 }
 
@@ -72,10 +77,12 @@ fn two_values(whole: &Silo) -> Vec<Due> {
         for (second, break_second) in VALUES.into_iter().skip(i) {
             let mut silo = whole.clone();
             break_second(&mut silo);
+            let mut later = 0;
             if first != second {
                 break_first(&mut silo);
+                later = second;
             }
-            sheets.push((silo.sheet(), first));
+            sheets.push(Due::of(silo.sheet(), first, later));
         }
     }
     sheets
@@ -93,7 +100,7 @@ fn starts(sheet: &[u8]) -> Vec<usize> {
 }
 
 /// Rules 1 to 5 before each of 6 to 12. A byte behind the sixth record is a header cut short, behind the seventh it is left over.
-fn record_and_value(whole: &Silo) -> Vec<Due> {
+fn record_and_value(whole: &Silo) -> Vec<Single> {
     let mut sheets = Vec::new();
     for (_, break_value) in VALUES {
         let mut silo = whole.clone();
@@ -115,7 +122,7 @@ fn record_and_value(whole: &Silo) -> Vec<Due> {
 
 /// Two records damaged, the later one first so that the places hold: the earlier one is the refusal. And too long a sheet, or a byte behind
 /// the last record, with one record damaged.
-fn two_records(whole: &[u8]) -> Vec<Due> {
+fn two_records(whole: &[u8]) -> Vec<Single> {
     let starts = starts(whole);
     let mut sheets = Vec::new();
     for (i, at) in starts.iter().enumerate() {
@@ -139,7 +146,7 @@ fn two_records(whole: &[u8]) -> Vec<Due> {
 }
 
 /// In one record: header before kind, kind before length, length before payload.
-fn one_record(whole: &[u8]) -> Vec<Due> {
+fn one_record(whole: &[u8]) -> Vec<Single> {
     let mut sheets = Vec::new();
     for at in starts(whole) {
         let damaged = |kind: u8, longer: u8, length: usize| {

@@ -1,5 +1,4 @@
-//! The load page of C-15 of document 02: its text, its length, what its two calls answer to any sheet and buffer, and what the program
-//! prints.
+//! The load page of C-15 of document 02: its text, its length, what its call answers to any sheet and buffer, and what the program prints.
 
 use crate::sheet::Silo;
 use std::fmt::Display;
@@ -14,16 +13,8 @@ pub fn length(silo: &Silo) -> usize {
     73 * (1 + silo.depths.len()) + 10 * (10 + silo.strakes.len())
 }
 
-/// A sheet that is accepted, or its refusal.
-type Judged<'a> = Result<&'a Silo, u64>;
-
-/// The length call's answer.
-pub fn length_answer(sheet: Judged) -> u64 {
-    sheet.map_or_else(|refusal| refusal, |silo| (1 << 32) + length(silo) as u64)
-}
-
-/// The page call's answer for a buffer of so many bytes: the sheet's own refusal comes before 18.
-pub fn answer(sheet: Judged, buffer: usize) -> u64 {
+/// The page call's answer to an accepted sheet, or to a refused one, for a buffer of so many bytes: the sheet's own refusal comes before 18.
+pub fn answer(sheet: Result<&Silo, u64>, buffer: usize) -> u64 {
     match sheet {
         Err(refusal) => refusal,
         Ok(silo) if buffer < length(silo) => 18,

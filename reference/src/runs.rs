@@ -5,19 +5,21 @@ use crate::catalogue::TABLE;
 use crate::compare::Comparison;
 use crate::inputs::{self, Random};
 use crate::limits::{self, Due};
-use crate::sheet::parse;
+use crate::sheet::{measure, parse};
 use crate::{page, shell};
 use std::collections::BTreeMap;
 
 /// Lengths of the lists that a refused sheet is lent with: none, one, the sample's, and the longest there is.
 const LISTS: [usize; 4] = [0, 1, 31, 1_634];
 
-/// Sheets with the number due, which the second implementation has to agree with as well.
+/// Sheets with the numbers due, which the second implementation has to agree with as well.
 pub fn table(comparison: &mut Comparison, sheets: &[Due]) -> Outcome {
-    for (bytes, due) in sheets {
-        let judged = parse(bytes).err().unwrap_or(0);
-        expect(judged == *due, bytes, || format!("{due} is due, the reference says {judged}"))?;
-        comparison.sheet(bytes, &LISTS)?;
+    for Due { sheet, loads, length } in sheets {
+        let judged = [parse(sheet), measure(sheet)].map(|silo| silo.err().unwrap_or(0));
+        expect(judged == [*loads, *length], sheet, || {
+            format!("{loads} is due, {length} from the length calls, the reference says {judged:?}")
+        })?;
+        comparison.sheet(sheet, &LISTS)?;
     }
     Ok(())
 }
@@ -52,9 +54,10 @@ pub fn pairs(comparison: &mut Comparison, random: &mut Random, count: u64) -> Ou
     })
 }
 
-/// Damaged sheets of a random silo, each lent with a list of any length where it is refused.
+/// Damaged sheets of a random silo, one time in four of a long bin, each lent with a list of any length where it is refused.
 pub fn damaged(comparison: &mut Comparison, random: &mut Random, count: u64) -> Outcome {
-    let silo = inputs::silo(random);
+    let long = random.one_in(4);
+    let silo = if long { inputs::long(random) } else { inputs::silo(random) };
     (0..count).try_for_each(|_| {
         let bytes = inputs::damaged(random, &silo);
         let length = random.below(2 * silo.answers_length() as u64) as usize;

@@ -1,5 +1,5 @@
 //! A sheet and the order in which it is refused, as document 01 writes them down, without 13, which C-11 of document 02 retires, and with
-//! the headroom and 17 of C-13 and the depth given with it of C-16.
+//! the headroom and 17 of C-13, the depth given with it of C-16 and, for loads alone, 20 of C-17.
 
 /// What a sheet says; lengths in mm, weight in N/m³, ratio, friction and factor in hundredths.
 #[derive(Clone, Debug, PartialEq, Eq)]
@@ -32,6 +32,11 @@ impl Silo {
 
     pub fn d_c(&self) -> u64 {
         self.a().min(self.b())
+    }
+
+    /// The long side is over three times the short one. A circle has one side alone.
+    pub fn is_long(&self) -> bool {
+        self.a().max(self.b()) > 3 * self.d_c()
     }
 
     /// V, the wall's foot.
@@ -96,18 +101,35 @@ fn numbers(payload: &[u8], width: usize) -> Vec<u64> {
     payload.chunks(width).map(number).collect()
 }
 
-/// The silo, or the number of the refusal.
-pub fn parse(sheet: &[u8]) -> Result<Silo, u64> {
-    parse_given(sheet, 0)
+/// What is asked of a sheet: only a length, or loads.
+#[derive(Clone, Copy, PartialEq, Eq)]
+pub enum Asked {
+    Length,
+    Loads,
 }
 
-/// The same where a depth is given with the sheet. Depth 0 is never over V.
-pub fn parse_given(sheet: &[u8], depth: u64) -> Result<Silo, u64> {
+/// The silo, or the number of the refusal, of a sheet whose loads are asked for.
+pub fn parse(sheet: &[u8]) -> Result<Silo, u64> {
+    judged(sheet, 0, Asked::Loads)
+}
+
+/// The same where a length alone is asked for.
+pub fn measure(sheet: &[u8]) -> Result<Silo, u64> {
+    judged(sheet, 0, Asked::Length)
+}
+
+/// What a call that tells a length answers: 2^32 + the length, or the number of the refusal.
+pub fn told(sheet: &[u8], length: fn(&Silo) -> usize) -> u64 {
+    measure(sheet).map_or_else(|refusal| refusal, |silo| (1 << 32) + length(&silo) as u64)
+}
+
+/// The silo, or the number of the refusal, where a depth is given with the sheet. Depth 0 is never over V.
+pub fn judged(sheet: &[u8], given: u64, asked: Asked) -> Result<Silo, u64> {
     if sheet.len() > 1024 {
         return Err(1);
     }
     let silo = records(sheet)?;
-    match judge(&silo, depth) {
+    match judge(&silo, given, asked) {
         0 => Ok(silo),
         refusal => Err(refusal),
     }
@@ -169,8 +191,8 @@ pub fn with_factor(sheet: &[u8], factor: u16) -> Option<Vec<u8>> {
     before[product..].starts_with(&[10, 0, 3, 0]).then_some(written)
 }
 
-/// Refusals 6 to 11, 17 and 12 in this order, or 0; 11 of the given depth too.
-fn judge(silo: &Silo, given: u64) -> u64 {
+/// Refusals 6, 20 where loads are asked for, 7 to 11, 17 and 12 in this order, or 0; 11 of the given depth too.
+fn judge(silo: &Silo, given: u64, asked: Asked) -> u64 {
     let (d_c, foot) = (silo.d_c(), silo.foot());
     let (hopper, run) = (silo.hopper_height, silo.run);
     let steep = 1_000_000 * hopper >= 363_971 * run;
@@ -182,6 +204,7 @@ fn judge(silo: &Silo, given: u64) -> u64 {
         && (silo.factor == 0 || (100..=200).contains(&silo.factor));
     let wrong = [
         (6, silo.section.iter().any(|side| !(500..=50_000).contains(side))),
+        (20, asked == Asked::Loads && silo.is_long()),
         (7, !product_fits),
         (8, 4 * silo.e_i > d_c || 4 * silo.e_o > d_c),
         (9, !flat && !hopper_fits),

@@ -2,7 +2,7 @@
 
 use crate::cosine::{BILLION, TABLE};
 use crate::formulas::patch_force;
-use crate::sheet::{parse_given, Silo};
+use crate::sheet::{judged, Asked, Silo};
 
 /// Numbers of a reply list: a pressure for each degree, and the force.
 pub const LENGTH: usize = DEGREES as usize + 1;
@@ -11,7 +11,7 @@ const DEGREES: u64 = 360;
 
 /// The silo, or the number of the refusal: the sheet's own and the given depth's, then 19, then 14.
 pub fn judge(sheet: &[u8], depth: u64, list: usize) -> Result<Silo, u64> {
-    let silo = parse_given(sheet, depth)?;
+    let silo = judged(sheet, depth, Asked::Loads)?;
     match silo.section.len() {
         2 => Err(19),
         _ if list != LENGTH => Err(14),

@@ -1,11 +1,12 @@
 //! Broken stand-ins for the library: the comparison has to find each of them in what the other tests compare.
 //!
 //! Each calls the library and changes what it leaves or answers: the worthless versions of document 01, its traps, single numbers and
-//! limits one off, other discharge factors, a headroom or a blank factor that is read otherwise, rules in another order, pages of another
-//! layout, other patches round a shell, and memory that is written to where it must not be.
+//! limits one off, other discharge factors, a headroom or a blank factor that is read otherwise, rules in another order, sides judged
+//! otherwise, pages of another layout, other patches round a shell, and memory that is written to where it must not be.
 
 mod pages;
 mod shells;
+mod sides;
 
 use pages::{page, page_length, Pages, WritePage};
 use reference::calls::{Library, Outcome, UNTOUCHED};
@@ -13,11 +14,12 @@ use reference::compare::Comparison;
 use reference::exponential::exponential;
 use reference::formulas::{self, c0, slenderness, Discharge, HORIZONTAL};
 use reference::fraction::{fraction, whole, Fraction, Real};
-use reference::inputs::Random;
+use reference::inputs::{sample, Random};
 use reference::linked::Linked;
-use reference::sheet::{parse, records, Silo};
+use reference::sheet::{measure, parse, records, Silo};
 use reference::{limits, order, runs};
 use shells::{shell_patch, Shell, WriteReply};
+use sides::{shortened, Call, Rule, Sides};
 use std::cmp::Ordering;
 
 type Loads = fn(&[u8], &mut [u32]) -> u32;
@@ -26,14 +28,15 @@ type Governing = fn(&[u32], &[u32]) -> u32;
 type Write = fn(*mut u8, *mut [u32]);
 type WriteLists = fn(*mut [u32], *mut [u32]);
 
-/// The calls, and what they write to besides: the load call the sheet from its first byte on, or the list; the page call likewise the
-/// sheet or the buffer, the shell patch call the sheet or the list; the governing call its lists.
+/// The calls, one of them with another rule for the sides, and what they write to besides: the load call the sheet from its first byte on, or
+/// the list; the page call likewise the sheet or the buffer, the shell patch call the sheet or the list; the governing call its lists.
 struct Broken {
     loads: Loads,
     answers_length: Length,
     pages: Pages,
     shell_patch: Shell,
     governing: Governing,
+    sides: Sides,
     write: Write,
     write_page: WritePage,
     write_reply: WriteReply,
@@ -43,31 +46,40 @@ struct Broken {
 impl Library for Broken {
     unsafe fn loads(&self, sheet: *const [u8], answers: *mut [u32]) -> u32 {
         // SAFETY: both are lent whole and do not overlap, and the references end with the call.
-        let answer = unsafe { (self.loads)(&*sheet, &mut *answers) };
+        let (bytes, list) = unsafe { (&*sheet, &mut *answers) };
+        let own = |bytes: &[u8]| (self.loads)(bytes, list);
+        let answer = sides::answered(self.sides, Call::Loads, (bytes, 0), own);
         (self.write)(sheet.cast_mut().cast(), answers);
         answer
     }
 
     unsafe fn answers_length(&self, sheet: *const [u8]) -> u64 {
         // SAFETY: the sheet is lent whole, and nothing writes to it.
-        unsafe { (self.answers_length)(&*sheet) }
+        let bytes = unsafe { &*sheet };
+        sides::answered(self.sides, Call::AnswersLength, (bytes, 0), self.answers_length)
     }
 
     unsafe fn page_length(&self, sheet: *const [u8]) -> u64 {
         // SAFETY: the sheet is lent whole, and nothing writes to it.
-        self.pages.length(unsafe { &*sheet })
+        let bytes = unsafe { &*sheet };
+        let own = |bytes: &[u8]| self.pages.length(bytes);
+        sides::answered(self.sides, Call::PageLength, (bytes, 0), own)
     }
 
     unsafe fn page(&self, sheet: *const [u8], page: *mut [u8]) -> u32 {
         // SAFETY: both are lent whole and do not overlap, and the references end with the call.
-        let answer = unsafe { self.pages.page(&*sheet, &mut *page) };
+        let (bytes, buffer) = unsafe { (&*sheet, &mut *page) };
+        let own = |bytes: &[u8]| self.pages.page(bytes, buffer);
+        let answer = sides::answered(self.sides, Call::Page, (bytes, 0), own);
         (self.write_page)(sheet.cast_mut().cast(), page);
         answer
     }
 
     unsafe fn shell_patch(&self, sheet: *const [u8], depth: u32, reply: *mut [i32]) -> u32 {
         // SAFETY: both are lent whole and do not overlap, and the references end with the call.
-        let answer = unsafe { (self.shell_patch)(&*sheet, depth, &mut *reply) };
+        let (bytes, list) = unsafe { (&*sheet, &mut *reply) };
+        let own = |bytes: &[u8]| (self.shell_patch)(bytes, depth, list);
+        let answer = sides::answered(self.sides, Call::ShellPatch, (bytes, depth.into()), own);
         (self.write_reply)(sheet.cast_mut().cast(), reply);
         answer
     }
@@ -92,6 +104,7 @@ const WHOLE: Broken = Broken {
     pages: pages::WHOLE,
     shell_patch,
     governing,
+    sides: None,
     write: |_, _| (),
     write_page: |_, _| (),
     write_reply: |_, _| (),
@@ -681,6 +694,24 @@ const REFUSALS: &[(&str, Loads)] = &[
             (answer, _) => answer,
         }
     }),
+    ("judges the sides as soon as they are read", |sheet, list| {
+        let rest = sample().sheet().split_off(8);
+        match (loads(sheet, list), sheet.get(..12)) {
+            (2..=5, Some(first)) if parse(&[first, &rest].concat()) == Err(20) => 20,
+            (answer, _) => answer,
+        }
+    }),
+    ("14 before 20", |sheet, list| match (loads(sheet, list), measure(sheet)) {
+        (20, Ok(silo)) if list.len() != silo.answers_length() => 14,
+        (answer, _) => answer,
+    }),
+    ("a long bin's list, with 20", |sheet, list| match loads(sheet, list) {
+        20 => {
+            loads(&shortened(sheet), list);
+            20
+        }
+        answer => answer,
+    }),
     ("takes g = V for V - 1", |sheet, list| {
         taken_for(sheet, list, |silo| {
             let most = silo.foot().checked_sub(1)?;
@@ -758,7 +789,7 @@ const LENGTHS: &[(&str, Length)] = &[
         Ok(silo) if is_squat(&silo) => 13,
         _ => answers_length(sheet),
     }),
-    ("no 17", |sheet| match (parse(sheet), records(sheet)) {
+    ("no 17", |sheet| match (measure(sheet), records(sheet)) {
         (Err(17), Ok(silo)) => (1 << 32) + silo.answers_length() as u64,
         _ => answers_length(sheet),
     }),
@@ -892,6 +923,34 @@ fn equal_factors_are_no_difference() {
 fn broken_length_calls_are_found() {
     for (name, answers_length) in LENGTHS {
         is_found(name, compared(&Broken { answers_length: *answers_length, ..WHOLE }));
+    }
+}
+
+fn judging(call: Call, rule: Rule) -> Broken {
+    Broken { sides: Some((call, rule)), ..WHOLE }
+}
+
+#[test]
+fn sides_judged_otherwise_are_found() {
+    for (calls, _, rules) in sides::CALLS {
+        for call in calls {
+            let loads_alone = [Call::Loads, Call::AnswersLength].contains(call);
+            for (name, rule) in rules {
+                let library = judging(*call, *rule);
+                let comparison = Comparison { loads_alone, ..Comparison::with(&library) };
+                is_found(&format!("{name}, {call:?}"), compared_by(comparison));
+            }
+        }
+    }
+}
+
+#[test]
+fn sides_judged_alike_are_no_difference() {
+    let sheets = order::sheets();
+    for (calls, due, _) in sides::CALLS {
+        for call in calls {
+            runs::table(&mut Comparison::with(&judging(*call, due)), &sheets).unwrap();
+        }
     }
 }
 

@@ -1,5 +1,5 @@
-//! The cases that document 01 writes down, as C-11 and C-14 of document 02 move them, and the same under the headroom of C-13; each sheet
-//! also compared as any other.
+//! The cases that document 01 writes down, as C-11 and C-14 of document 02 move them, the same under the headroom of C-13, and the sides of
+//! C-17; each sheet also compared as any other.
 
 use reference::compare::Comparison;
 use reference::formulas::{self, Discharge};
@@ -85,6 +85,7 @@ fn accepted_and_refused_as_written() {
     let height = |height| of_height(&[5_000], height, (0, 0));
     let under = |height, g| under_headroom(&[5_000], height, (0, 0), g);
     let blank = |silo| Silo { factor: 0, ..silo };
+    let sides = |a, b| with(|silo| silo.section = vec![a, b]);
     let silos = [
         (height(200), 0),
         (height(4_999), 0),
@@ -120,7 +121,12 @@ fn accepted_and_refused_as_written() {
         (under(50_000, 5_000), 12),
         (under(7_499, 2_000), 0),
         (under(7_500, 2_000), 0),
-        (with(|silo| silo.section = vec![5_000, 5_000]), 0),
+        (sides(5_000, 5_000), 0),
+        (sides(5_000, 15_000), 0),
+        (sides(15_000, 5_000), 0),
+        (sides(5_000, 15_001), 20),
+        (sides(15_001, 5_000), 20),
+        (sides(5_000, 50_001), 6),
         (with(|silo| silo.headroom = Some(9_999)), 0),
         (with(|silo| silo.headroom = Some(10_000)), 17),
         (with(|silo| silo.headroom = Some(5_000)), 0),
@@ -133,11 +139,13 @@ fn accepted_and_refused_as_written() {
         (sample(), record(8, vec![0; 2]), 4),
         (with(|silo| silo.headroom = Some(0)), vec![0], 5),
     ];
-    let mut sheets: Vec<Due> = silos.map(|(silo, due)| (silo.sheet(), due)).into();
-    sheets.extend(behind.map(|(silo, bytes, due)| ([silo.sheet(), bytes].concat(), due)));
+    let whole = silos.map(|(silo, due)| (silo.sheet(), due)).into_iter();
+    let longer = behind.map(|(silo, bytes, due)| ([silo.sheet(), bytes].concat(), due));
+    let mut sheets: Vec<Due> = whole.chain(longer).map(Due::from).collect();
+    sheets.push(Due::of(Silo { friction: 9, ..sides(5_000, 15_001) }.sheet(), 20, 7));
     let mut comparison = Comparison::with(&Linked);
     runs::table(&mut comparison, &sheets).unwrap();
-    comparison.report([2, 3, 4, 5, 7, 8, 9, 11, 17, 12, 14, 18]);
+    comparison.report([2, 3, 4, 5, 6, 20, 7, 8, 9, 11, 17, 12, 14, 18]);
 }
 
 /// The lists with a blank factor and with another.

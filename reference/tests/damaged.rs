@@ -1,5 +1,5 @@
-//! Damaged sheets, of six records and of seven: cut, extended, bytes and fields overwritten, noise, also behind the sixth record, and
-//! numbers at or next to a limit.
+//! Damaged sheets of accepted silos and of long bins, of six records and of seven: cut, extended, bytes and fields overwritten, noise, also
+//! behind the sixth record, and numbers at or next to a limit.
 
 use reference::compare::{Comparison, REFUSALS};
 use reference::inputs::Random;

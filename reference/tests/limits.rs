@@ -1,4 +1,4 @@
-//! Every limit of document 01, of C-11 and C-13 to C-16 at, below and above, and sheets that break two rules at once.
+//! Every limit of document 01, of C-11 and C-13 to C-17 at, below and above, and sheets that break two rules at once.
 
 use reference::compare::{Comparison, REFUSALS};
 use reference::formulas::Discharge;
@@ -20,7 +20,7 @@ fn of_two_broken_rules_the_first_is_the_refusal() {
     let mut comparison = Comparison::with(&Linked);
     let sheets = order::sheets();
     runs::table(&mut comparison, &sheets).unwrap();
-    comparison.report((1..=12).chain([17, 18]));
+    comparison.report((1..=12).chain([17, 18, 20]));
 }
 
 #[test]

@@ -1,4 +1,5 @@
-//! The patch round the shell of document 01's sample, as C-16 writes it down; what the call answers to it, and to every depth with every list.
+//! The patch round the shell of document 01's sample, as C-16 writes it down; what the call answers to it, to rectangles, to long bins of
+//! C-17, and to every depth with every list.
 
 use reference::compare::Comparison;
 use reference::inputs::sample;
@@ -38,6 +39,15 @@ fn its_answers() {
     let square = Silo { section: vec![5_000, 5_000], ..sample() };
     let high = |silo: &Silo| Silo { section: vec![900; silo.section.len()], ..silo.clone() };
     let answer = |silo: &Silo, depth, list| judge(&silo.sheet(), depth, list).err().unwrap_or(0);
+    let sides = |a, b| Silo { section: vec![a, b], ..sample() };
+    for [a, b] in [[5_000, 15_000], [15_000, 5_000]] {
+        assert_eq!(answer(&sides(a, b), 10_000, LENGTH), 19);
+    }
+    for long in [sides(5_000, 15_001), sides(15_001, 5_000)] {
+        let light = Silo { weight: 999, ..long.clone() };
+        assert_eq!([LENGTH, 0].map(|list| answer(&long, 10_000, list)), [20, 20], "before 19");
+        assert_eq!([&long, &light].map(|silo| answer(silo, 10_001, LENGTH)), [20, 20], "before 7");
+    }
     assert_eq!(answer(&sample(), 10_000, LENGTH), 0);
     assert_eq!([360, 362, 0].map(|list| answer(&sample(), 10_000, list)), [14, 14, 14]);
     assert_eq!([LENGTH, 0].map(|list| answer(&square, 10_000, list)), [19, 19], "before 14");
@@ -50,16 +60,19 @@ fn its_answers() {
     }
 }
 
-/// Circles and squares with a V of 10,000: accepted, under a headroom, full to the brim's foot with it, and ten times as high as wide.
+/// Circles, squares and long bins with a V of 10,000: accepted or not, under a headroom, full to the brim's foot with it, and ten times as
+/// high as wide.
 fn silos() -> Vec<Silo> {
     let of_section = |section: Vec<u64>| {
         let silo = Silo { section, ..sample() };
         let under = under_headroom(&silo.section, 7_000, (0, 0), 3_000);
         let full = Silo { headroom: Some(10_000), ..silo.clone() };
-        let high = Silo { section: vec![900; silo.section.len()], ..silo.clone() };
+        let narrow = silo.section.iter().map(|side| side * 9 / 50).collect();
+        let high = Silo { section: narrow, ..silo.clone() };
         [silo, under, full, high]
     };
-    [vec![5_000], vec![5_000, 5_000]].into_iter().flat_map(of_section).collect()
+    let sections = [vec![5_000], vec![5_000, 5_000], vec![5_000, 20_000]];
+    sections.into_iter().flat_map(of_section).collect()
 }
 
 #[test]
@@ -77,5 +90,5 @@ fn every_depth_with_every_list() {
         }
     }
     println!("shell patches: calls by their answer {calls:?}");
-    assert!(calls.keys().eq(&[0, 11, 12, 14, 17, 19]));
+    assert!(calls.keys().eq(&[0, 11, 12, 14, 17, 19, 20]));
 }

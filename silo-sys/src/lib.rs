@@ -6,7 +6,7 @@
 //! overlaps no other.
 
 extern "C" {
-    /// Fills the answer list for a sheet. Answers 0; or a refusal, 1 to 12, 14 or 17, and the list is as it was.
+    /// Fills the answer list for a sheet. Answers 0; or a refusal, 1 to 12, 14, 17 or 20, and the list is as it was.
     pub fn silo_loads(
         sheet: *const u8,
         sheet_len: usize,
@@ -14,18 +14,19 @@ extern "C" {
         answers_len: usize,
     ) -> u32;
 
-    /// The answer list's length in numbers. Answers 2^32 plus that length; or a refusal, 1 to 12 or 17.
+    /// The answer list's length in numbers, no promise of loads: 20 is not tried. Answers 2^32 plus that length; or a refusal, 1 to 12 or
+    /// 17.
     pub fn silo_answers_length(sheet: *const u8, sheet_len: usize) -> u64;
 
-    /// The page's length in bytes. Answers 2^32 plus that length; or a refusal, 1 to 12 or 17.
+    /// The page's length in bytes, no promise of a page: 20 is not tried. Answers 2^32 plus that length; or a refusal, 1 to 12 or 17.
     pub fn silo_page_length(sheet: *const u8, sheet_len: usize) -> u64;
 
-    /// Writes the page of a sheet at the buffer's start; the bytes past it keep what they held. Answers 0; or a refusal, 1 to 12, 17 or
-    /// 18, and the buffer is as it was.
+    /// Writes the page of a sheet at the buffer's start; the bytes past it keep what they held. Answers 0; or a refusal, 1 to 12, 17, 18
+    /// or 20, and the buffer is as it was.
     pub fn silo_page(sheet: *const u8, sheet_len: usize, page: *mut u8, page_len: usize) -> u32;
 
     /// Fills the reply list of 361 numbers with the patch round the circular shell of a sheet, `depth` mm below the brim. Answers 0; or a
-    /// refusal, 1 to 12, 17, 19 or 14, and the list is as it was.
+    /// refusal, 1 to 12, 17, 20, 19 or 14, and the list is as it was.
     pub fn silo_shell_patch(
         sheet: *const u8,
         sheet_len: usize,

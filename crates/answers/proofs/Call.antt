@@ -2,20 +2,24 @@
 -- Assumes nothing.
 use Prim.Native.Nat.{ℕ}
 use mathlib.Core.Bool.{true}
+use mathlib.Core.Logic.{_⊎_}
 use mathlib.Core.Path.{_≡_, refl, sym, _∙_, subst}
 use mathlib.Core.List.{List, [], _∷_}
 use native.Mathlib.Omega.{arith}
 use borrow.Author.Tests.{eq-eqb, ne-eqb}
 use lib.Dec.{eqb}
 use lib.ListN.{length}
+use Rattle.janssen.specs.Numbers.{FillingNumbers}
 use Rattle.janssen.specs.program.Pressure.{computed}
 use Rattle.records.specs.Rules.{_unless_, first-unmet}
-use Rattle.sheet.specs.Refusal.{refusal-of}
-use Rattle.sheet.proofs.Acceptance.{sheet-first, sheet-passed, sheet-met, call-never-13}
-use Rattle.answers.specs.Length.{length-due}
+use Rattle.sheet.specs.Refusal.{length-refusal, refusal-of}
+use Rattle.sheet.proofs.Chains.{sheet-first, sheet-passed, sheet-met, call-never-13, call-or-20, call-measured-20}
+use Rattle.answers.specs.Length.{length-due, answers-length}
+use Rattle.answers.specs.declared.length.Length.the-variants.{Due, Refused}
 use Rattle.answers.specs.Answers.{Filled, loads-rules}
 use Rattle.answers.specs.Promise.{Promise}
 use Rattle.answers.specs.program.Fill.{answers}
+use Rattle.answers.proofs.LengthLaws.{due-told, refused-told}
 use Rattle.answers.proofs.Places.{answers-filled}
 use Rattle.answers.proofs.Demand.{claim}
 
@@ -36,6 +40,20 @@ module _ (s : List ℕ) (n : ℕ) where
   pub not-refused : first-unmet (loads-rules s n) ≡ 0 → refusal-of s ≡ 0
   unfolding loads-rules
   not-refused h = sheet-met s _ h
+
+-- beside the length call (document 02, C-17): the refusal that it answers, or 20; and 20 where it tells a length, which the list has
+module _ {f : FillingNumbers} {s lent left : List ℕ} {r : ℕ} (p : Promise f s lent r left) where
+  pub refused-or-20 : (k : ℕ) → answers-length s ≡ Refused k → (r ≡ k) ⊎ (r ≡ 20)
+  unfolding loads-rules
+  refused-or-20 k e =
+      let told = refused-told (length-refusal s) (length-due s) k e in
+      rw (p .answer, sym (told .1)) (call-or-20 s _ (told .0))
+
+  pub measured-refused : answers-length s ≡ Due (length lent) → (r ≡ 0 → ⊥) → r ≡ 20
+  unfolding loads-rules first-unmet
+  measured-refused e n =
+      let told = due-told (length-refusal s) (length-due s) (length lent) e in
+      p .answer ∙ call-measured-20 s _ (told .0) (simp (eq-eqb (length lent) (length-due s) (sym (told .1)))) (λ o. n (p .answer ∙ o))
 
 module _ (s lent : List ℕ) where
   -- any refusal leaves the list as it was

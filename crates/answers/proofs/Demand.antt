@@ -16,7 +16,7 @@ use Rattle.records.proofs.Records.{six-least}
 use Rattle.description.specs.Silo.{section-of, product-of, bottom-of, depth-count, strakes-of, edge-of, V-of, h-of}
 use Rattle.description.proofs.Sums.{sum-under}
 use Rattle.sheet.specs.Refusal.{refusal-of}
-use Rattle.sheet.specs.Accepted.{Accepted}
+use Rattle.sheet.specs.Accepted.{Measured}
 use Rattle.sheet.proofs.Acceptance.{accepted}
 use Rattle.sheet.proofs.Parts.{section-same, product-same}
 use Rattle.sheet.proofs.Described.{edge-most, V-most, grain-below-ten, in-range, factor-in}
@@ -38,7 +38,7 @@ pub same-height : (s : List ℕ) → full-height (silo-of s) ≡ h-of s
 unfolding load-depth h-of
 same-height s = refl
 
-module _ (s : List ℕ) (a : Accepted s) where
+module _ (s : List ℕ) (a : Measured s) where
   -- every depth at most at the wall's foot
   pub reached : (x : ℕ) → x ≤ V-of s → Reached (silo-of s) x
   unfolding load-depth
@@ -85,12 +85,12 @@ module _ (s : List ℕ) (a : Accepted s) where
   unfolding edge-of
   edges-down k m h = sum-under (strakes-of s) k m h
 
-pub two-records : (s : List ℕ) → Accepted s → place s 2 ≤ length s
+pub two-records : (s : List ℕ) → Measured s → place s 2 ≤ length s
 unfolding place payload-length
 two-records s a = a .layout .present 1 (omega (arith, six-least s))
 
 -- section and product of two accepted sheets with equal first records
-module _ (s s' : List ℕ) (a : Accepted s) (a' : Accepted s') (e : SameSectionAndProduct s s') where
+module _ (s s' : List ℕ) (a : Measured s) (a' : Measured s') (e : SameSectionAndProduct s s') where
   section-equal : section-of s ≡ section-of s'
   section-equal = section-same s s' (a .layout) (first-record s s' (two-records s a) (two-records s' a') e)
 
@@ -114,7 +114,7 @@ ordered-by up down = record { rises = up; falls = down; same = λ e. le-antisymm
 -- demand 3
 pub claim : (s list : List ℕ) → refusal-of s ≡ 0 → Filled computed s list → Claim computed s list
 claim s list h fill =
-    let a : Accepted s = accepted s h in
+    let a = accepted s h .measured in
     let c : Silo = silo-of s in
     let fits : Fits c = silo-fits s a in
     record {
@@ -145,7 +145,7 @@ claim s list h fill =
           (rises c fits (edge-of s (suc k)) (depth s i) (depth-reached s a i g) p-he));
       ordered =
           λ s' list' left e l o i j g n.
-          let a' : Accepted s' = accepted s' (left .accepted) in
+          let a' = accepted s' (left .accepted) .measured in
           let up = number-more s s' a a' e o i j n in
           let down = number-more s' s a' a (sym e) o j i g in
           rw (fill .at-depths l i g, left .filled .at-depths l j n) (ordered-by up down);

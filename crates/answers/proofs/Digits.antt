@@ -35,18 +35,18 @@ bound-small p-p depth h = omega arith
 module _ (s list : List ℕ) (h : refusal-of s ≡ 0) (fill : Filled computed s list) where
   -- a load at any depth of the wall
   eight-down : (l : Load) (depth : ℕ) → depth ≤ 72000 → number computed (silo-of s) l depth < 10 ^ 8
-  eight-down l depth g = omega (arith, within-bound (silo-of s) (silo-fits s (accepted s h)) l depth, bound-small l depth g)
+  eight-down l depth g = omega (arith, within-bound (silo-of s) (silo-fits s (accepted s h .measured)) l depth, bound-small l depth g)
 
   pub eight-digits : (l : Load) (i : ℕ) → i < depth-count s → load-in s list l i < 10 ^ 8
   eight-digits l i g =
-      omega (arith, fill .at-depths l i g, eight-down l (depth s i) (omega (arith, accepted s h .depths-most i g, V-most s (accepted s h))))
+      omega (arith, fill .at-depths l i g, eight-down l (depth s i) (omega (arith, accepted s h .measured .depths-most i g, V-most s (accepted s h .measured))))
 
   bottom-digits : (k : ℕ) → k < 10 → bottom-in s list k < 10 ^ 9
-  bottom-digits k g = omega (arith, fill .at-bottom k g, bottom-within (silo-of s) (silo-fits s (accepted s h)) k g)
+  bottom-digits k g = omega (arith, fill .at-bottom k g, bottom-within (silo-of s) (silo-fits s (accepted s h .measured)) k g)
 
   strake-digits : (k : ℕ) → k < strake-count s → strake-in s list k < 10 ^ 9
   strake-digits k g =
-      omega (arith, fill .at-strakes k g, eight-down p-he (edge-of s (suc k)) (omega (arith, edge-most s (suc k), V-most s (accepted s h))))
+      omega (arith, fill .at-strakes k g, eight-down p-he (edge-of s (suc k)) (omega (arith, edge-most s (suc k), V-most s (accepted s h .measured))))
 
   pub nine-digits : (i : ℕ) → getD list i 0 < 10 ^ 9
   nine-digits i = go (decLt i (length list))

@@ -1,5 +1,5 @@
 -- What a blank factor means (document 02, C-14), and what C0 moves.
---     blank-refusal      C0 = c written in, 100 to 200: the same refusal
+--     blank-refused      C0 = c written in, 100 to 200: refused alike
 --     acts-as-155        155 written in: the load call answers the same and leaves the same list; the length call too (`blank-length`)
 --     smaller-factor     a smaller C0 written in: no greater p_he, patch or strake load, and every other load the same
 --     blank-beside-135   so of 135 written in
@@ -22,11 +22,11 @@ use Rattle.records.proofs.Alike.{SameBytes, SameRecord, u32-same}
 use Rattle.records.proofs.Written.{place-written, other-record, layout-written}
 use Rattle.description.specs.Silo.{product-sent, product-of, factor-read, depth-count, V-of, headroom-of, edge-of}
 use Rattle.description.proofs.Headroom.{headroom-read}
-use Rattle.sheet.specs.Refusal.{product-met, sheet-rules-at, refusal-of}
+use Rattle.sheet.specs.Refusal.{product-met}
 use Rattle.sheet.specs.Accepted.{Layout}
 use Rattle.sheet.proofs.Acceptance.{accepted}
 use Rattle.sheet.proofs.Described.{factor-in}
-use Rattle.sheet.proofs.Parts.{SameParts, means-same, same-parts, SameRules, values-same, refusal-same, refusal-at-same}
+use Rattle.sheet.proofs.Parts.{SameParts, means-same, same-parts, SameRules, values-same, RefusedAlike, refused-alike}
 use Rattle.loads.specs.declared.Silo.{Silo}
 use Rattle.loads.specs.Load.{Load}
 use Rattle.loads.specs.Load.{number, bottom-numbers}
@@ -38,7 +38,7 @@ use Rattle.answers.specs.Claim.{LeftFor}
 use Rattle.answers.specs.Promise.{Promise}
 use Rattle.answers.specs.Factor.{with-factor, Blank, NoSmaller}
 use Rattle.answers.proofs.Demand.{two-records, silo-fits}
-use Rattle.answers.proofs.OneSilo.{OneSilo, depths-by, strakes-by, one-length, one-call}
+use Rattle.answers.proofs.OneSilo.{Alike, depths-by, strakes-by, one-length, one-call}
 
 module _ (s : List ℕ) (c : ℕ) (ten : payload-length s 1 ≡ 10) where
   abbrev s' : List ℕ
@@ -129,15 +129,11 @@ module _ (s : List ℕ) (b : Blank s) (c : ℕ) (least : 100 ≤ c) (most : c �
       rw (product-written s c (b .ten) (b .inside) least most, b .blank)
       (simp (ne-eqb c 0 (λ e. omega (arith, e, least)), le-leb 100 c least, le-leb c 200 most))
 
-  values-kept : Layout s → (z : ℕ) → SameRules s (with-factor c s) z
+  values-kept : Layout s → SameRules s (with-factor c s)
   values-kept l = values-same s (with-factor c s) (parts-kept s c (b .ten) l) product-met-kept
 
-  pub blank-refusal : refusal-of s ≡ refusal-of (with-factor c s)
-  blank-refusal = refusal-same s (with-factor c s) (ap first-unmet (records-same s c (b .ten))) values-kept
-
-  -- with a depth z given beside the sheets
-  pub blank-refusal-at : (z : ℕ) → first-unmet (sheet-rules-at s z) ≡ first-unmet (sheet-rules-at (with-factor c s) z)
-  blank-refusal-at = refusal-at-same s (with-factor c s) (ap first-unmet (records-same s c (b .ten))) values-kept
+  pub blank-refused : RefusedAlike s (with-factor c s)
+  blank-refused = refused-alike s (with-factor c s) (ap first-unmet (records-same s c (b .ten))) values-kept
 
 -- a blank factor is 155
 blank-factor : (s : List ℕ) → product-sent s .factor ≡ 0 → product-of s .factor ≡ 155
@@ -148,29 +144,30 @@ module _ (s : List ℕ) (b : Blank s) where
   abbrev written : List ℕ
   written = with-factor 155 s
 
-  pub same-refusal : refusal-of s ≡ refusal-of written
-  same-refusal = blank-refusal s b 155 (omega arith) (omega arith)
-
-  pub same-silo : refusal-of s ≡ 0 → OneSilo s written
-  same-silo h =
-      let l = accepted s h .layout in
+  pub blank-alike : Alike s written
+  blank-alike =
       record {
-        parts = parts-kept s 155 (b .ten) l;
-        silos = sym (silo-written s 155 (b .ten) (b .inside) (omega arith) (omega arith) l ∙ ap (λ (n : ℕ). silo-with n (silo-of s)) (sym (blank-factor s (b .blank))));
+        refusals = blank-refused s b 155 (omega arith) (omega arith);
+        silo =
+            λ l.
+            record {
+              parts = parts-kept s 155 (b .ten) l;
+              silos = sym (silo-written s 155 (b .ten) (b .inside) (omega arith) (omega arith) l ∙ ap (λ (n : ℕ). silo-with n (silo-of s)) (sym (blank-factor s (b .blank))));
+            };
       }
 
   pub blank-length : answers-length s ≡ answers-length written
-  blank-length = one-length s written same-refusal same-silo
+  blank-length = one-length s written blank-alike
 
   pub acts-as-155 : (f : FillingNumbers) (lent left left' : List ℕ) (r r' : ℕ) → Promise f s lent r left → Promise f written lent r' left'
       → (r ≡ r') × (left ≡ left')
-  acts-as-155 f lent left left' r r' p q = one-call s written same-refusal same-silo f p q
+  acts-as-155 f lent left left' r r' p q = one-call s written blank-alike f p q
 
 -- a smaller C0 written into an accepted sheet
 module _ (s : List ℕ) (c : ℕ) (least : 100 ≤ c) (most : c ≤ product-of s .factor) (list list' : List ℕ) where
   pub smaller-factor : LeftFor computed s list → LeftFor computed (with-factor c s) list' → NoSmaller s list (with-factor c s) list'
   smaller-factor a a' =
-      let ok = accepted s (a .accepted) in
+      let ok = accepted s (a .accepted) .measured in
       let ten = ok .layout .product-length in
       let s' = with-factor c s in
       let two-hundred : c ≤ 200 = omega (arith, most, factor-in s ok .most) in

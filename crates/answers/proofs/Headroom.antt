@@ -18,10 +18,9 @@ use Rattle.records.proofs.Alike.{SameRecord}
 use Rattle.records.proofs.Followed.{place-kept, record-kept, u32-behind, followed-passed, followed-refused}
 use Rattle.description.specs.Silo.{product-sent, product-of, depth-count, V-of, headroom-of}
 use Rattle.description.proofs.Headroom.{six-level, seventh-headroom}
-use Rattle.sheet.specs.Refusal.{product-met, sheet-rules-at, refusal-of}
+use Rattle.sheet.specs.Refusal.{product-met}
 use Rattle.sheet.specs.Accepted.{Layout}
-use Rattle.sheet.proofs.Acceptance.{accepted}
-use Rattle.sheet.proofs.Parts.{SameParts, product-same, same-parts, SameRules, values-same, refusal-same, refusal-at-same}
+use Rattle.sheet.proofs.Parts.{SameParts, product-same, same-parts, SameRules, values-same, refused-alike}
 use Rattle.loads.specs.Load.{Load}
 use Rattle.loads.specs.Load.{OfFilling, load-depth, number}
 use Rattle.loads.specs.Load.Load.{p-vf}
@@ -30,7 +29,7 @@ use Rattle.answers.specs.Answers.{silo-of, depth, load-in, Filled}
 use Rattle.answers.specs.Claim.{LeftFor, SameSectionAndProduct}
 use Rattle.answers.specs.Promise.{Promise}
 use Rattle.answers.proofs.Demand.{claim}
-use Rattle.answers.proofs.OneSilo.{OneSilo, one-length, one-call}
+use Rattle.answers.proofs.OneSilo.{Alike, one-length, one-call}
 
 -- a record with headroom 0
 abbrev pub level : List ℕ
@@ -61,7 +60,7 @@ module _ (s : List ℕ) (six : place s 6 ≡ length s) where
     product-kept : product-sent s ≡ product-sent (s ++ level)
     product-kept = product-same s (s ++ level) l (kept 1 4 refl)
 
-    values-kept : (z : ℕ) → SameRules s (s ++ level) z
+    values-kept : SameRules s (s ++ level)
     values-kept = values-same s (s ++ level) parts-kept (ap product-met product-kept)
 
     silo-kept : silo-of s ≡ silo-of (s ++ level)
@@ -82,22 +81,19 @@ module _ (s : List ℕ) (six : place s 6 ≡ length s) where
     records-alike : first-unmet (layout-rules s) ≡ first-unmet (layout-rules (s ++ level))
     records-alike = records-by (decLe (first-unmet (layout-rules s)) 0)
 
-    pub level-refusal : refusal-of s ≡ refusal-of (s ++ level)
-    level-refusal = refusal-same s (s ++ level) records-alike values-kept
-
-    -- with a depth z given beside the sheets
-    pub level-refusal-at : (z : ℕ) → first-unmet (sheet-rules-at s z) ≡ first-unmet (sheet-rules-at (s ++ level) z)
-    level-refusal-at = refusal-at-same s (s ++ level) records-alike values-kept
-
-    pub level-silo : refusal-of s ≡ 0 → OneSilo s (s ++ level)
-    level-silo h = let l = accepted s h .layout in record { parts = parts-kept l; silos = silo-kept l }
+    pub level-alike : Alike s (s ++ level)
+    level-alike =
+        record {
+          refusals = refused-alike s (s ++ level) records-alike values-kept;
+          silo = λ l. record { parts = parts-kept l; silos = silo-kept l };
+        }
 
     pub level-length : answers-length s ≡ answers-length (s ++ level)
-    level-length = one-length s (s ++ level) level-refusal level-silo
+    level-length = one-length s (s ++ level) level-alike
 
     pub level-record : (f : FillingNumbers) (lent left left' : List ℕ) (r r' : ℕ) → Promise f s lent r left → Promise f (s ++ level) lent r' left'
         → (r ≡ r') × (left ≡ left')
-    level-record f lent left left' r r' a b = one-call s (s ++ level) level-refusal level-silo f a b
+    level-record f lent left left' r r' a b = one-call s (s ++ level) level-alike f a b
 
 -- z - g, listed on an accepted sheet without headroom, beside z
 pub level-sheet : (s s' list list' : List ℕ) → LeftFor computed s list → LeftFor computed s' list' → SameSectionAndProduct s s' → headroom-of s' ≡ 0

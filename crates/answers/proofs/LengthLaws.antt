@@ -1,5 +1,5 @@
 -- The length due by the silo described, and the answers of the length call: a refused sheet's refusal, an accepted sheet's length.
-use Prim.Native.Nat.{ℕ, _≤_}
+use Prim.Native.Nat.{ℕ, suc, _≤_, _<_}
 use mathlib.Core.List.{List}
 use mathlib.Core.Path.{_≡_, _∙_, ap, sym}
 use native.Mathlib.Decide.{decLe}
@@ -7,10 +7,11 @@ use native.Mathlib.Omega.{arith}
 use borrow.Author.Tests.{eq-eqb, ne-eqb}
 use Rattle.description.specs.declared.Described.{Described}
 use Rattle.description.specs.program.Described.{wall-of, described-of}
-use Rattle.sheet.specs.Refusal.{refusal-of}
-use Rattle.sheet.proofs.Acceptance.{never-13}
+use Rattle.sheet.specs.Refusal.{length-refusal}
+use Rattle.sheet.proofs.Chains.{never-13, never-20}
 use Rattle.answers.specs.Place.{strake-place}
 use Rattle.answers.specs.Length.{length-due, told, length-number}
+use Rattle.answers.specs.declared.length.Length.{Length}
 use Rattle.answers.specs.declared.length.Length.the-variants.{Due, Refused}
 
 -- the length due by the counts of the silo described
@@ -35,11 +36,52 @@ told-same {r} {r'} {n} {n'} e f = go (decLe r 0)
     go (yes z) = let h : r ≡ 0 = omega arith in told-due r n h ∙ ap Due (f h) ∙ sym (told-due r' n' (sym e ∙ h))
     go (no z) = told-refused r n (λ o. omega arith) ∙ ap Refused e ∙ sym (told-refused r' n' (λ o. omega (arith, e)))
 
--- 13 is retired: no call that tells a length answers it
-pub length-never-13 : (s : List ℕ) (n : ℕ) → length-number (told (refusal-of s) n) ≡ 13 → ⊥
+-- back from an answer: a length is told where there is no refusal, and a refusal is the one there is
+abbrev length-in : Length → ℕ
+length-in (Due n) = suc n
+length-in (Refused r) = 0
+
+abbrev refusal-in : Length → ℕ
+refusal-in (Due n) = 0
+refusal-in (Refused r) = r
+
+module _ (r n k : ℕ) where
+  pub due-told : told r n ≡ Due k → (r ≡ 0) × (n ≡ k)
+  due-told e = at (decLe r 0)
+    where
+      at : Dec (r ≤ 0) → (r ≡ 0) × (n ≡ k)
+      at (yes z) =
+          let h : r ≡ 0 = omega arith in
+          let same : suc n ≡ suc k = ap length-in (sym (told-due r n h) ∙ e) in
+          (h, omega (arith, same))
+      at (no z) =
+          let none : 0 ≡ suc k = ap length-in (sym (told-refused r n (λ o. omega arith)) ∙ e) in
+          absurd (omega (arith, none))
+
+  pub refused-told : told r n ≡ Refused k → (r ≡ 0 → ⊥) × (r ≡ k)
+  refused-told e = at (decLe r 0)
+    where
+      at : Dec (r ≤ 0) → (r ≡ 0 → ⊥) × (r ≡ k)
+      at (yes z) =
+          let some : suc n ≡ 0 = ap length-in (sym (told-due r n (omega arith)) ∙ e) in
+          absurd (omega (arith, some))
+      at (no z) =
+          let refused : r ≡ 0 → ⊥ = λ o. omega arith in
+          (refused, ap refusal-in (sym (told-refused r n refused) ∙ e))
+
+-- the number of an answer is that of its refusal, or more than any
+told-number : (r n k : ℕ) → k < 4294967296 → length-number (told r n) ≡ k → r ≡ k
 unfolding length-number
-length-never-13 s n e = at (decLe (refusal-of s) 0)
+told-number r n k small e = at (decLe r 0)
   where
-    at : Dec (refusal-of s ≤ 0) → ⊥
-    at (yes z) = let due = rw (told-due (refusal-of s) n (omega arith)) at e in omega arith
-    at (no z) = never-13 s (rw (told-refused (refusal-of s) n (λ o. omega arith)) at e)
+    at : Dec (r ≤ 0) → r ≡ k
+    at (yes z) = let due = rw (told-due r n (omega arith)) at e in absurd (omega (arith, due, small))
+    at (no z) = rw (told-refused r n (λ o. omega arith)) at e
+
+-- 13 is retired, and 20 is only for loads: no call that tells a length answers them
+module _ (s : List ℕ) (n : ℕ) where
+  pub length-never-13 : length-number (told (length-refusal s) n) ≡ 13 → ⊥
+  length-never-13 e = never-13 s (told-number (length-refusal s) n 13 (omega arith) e)
+
+  pub length-never-20 : length-number (told (length-refusal s) n) ≡ 20 → ⊥
+  length-never-20 e = never-20 s (told-number (length-refusal s) n 20 (omega arith) e)

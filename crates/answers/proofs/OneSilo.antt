@@ -1,5 +1,5 @@
--- Two sheets that are refused alike and, where they are accepted, describe one silo with the same wall and depths (`OneSilo`) have one answer: the length call
--- answers the same (`one-length`), and the load call answers the same and leaves the same list (`one-call`).
+-- Two sheets that are refused alike and, where their records are in order, describe one silo with the same wall and depths (`OneSilo`) have one answer: the
+-- length call answers the same (`one-length`), and the load call answers the same and leaves the same list (`one-call`).
 -- Assumes nothing.
 use Prim.Native.Nat.{ℕ, suc, _≤_, _<_}
 use mathlib.Core.List.{List, [], _∷_}
@@ -11,9 +11,11 @@ use lib.ListN.{length, getD, take}
 use Rattle.janssen.specs.Numbers.{FillingNumbers}
 use Rattle.records.specs.Rules.{_unless_, first-unmet}
 use Rattle.description.specs.Silo.{strake-count, depth-count, edge-of, sum}
-use Rattle.sheet.specs.Refusal.{refusal-of}
-use Rattle.sheet.proofs.Acceptance.{answers-alike}
-use Rattle.sheet.proofs.Parts.{SameParts}
+use Rattle.sheet.specs.Refusal.{length-refusal, refusal-of}
+use Rattle.sheet.specs.Accepted.{Layout}
+use Rattle.sheet.proofs.Chains.{accepted-measured, answers-alike}
+use Rattle.sheet.proofs.Acceptance.{measured}
+use Rattle.sheet.proofs.Parts.{SameParts, RefusedAlike, loads-alike}
 use Rattle.loads.specs.declared.Silo.{Silo}
 use Rattle.loads.specs.Load.{Load}
 use Rattle.loads.specs.Load.{number, bottom-numbers}
@@ -30,6 +32,11 @@ use Rattle.answers.proofs.Call.{not-refused}
 pub record OneSilo (s s' : List ℕ) : Type 0 where
   pub parts : SameParts s s'
   pub silos : silo-of s ≡ silo-of s'
+
+-- sheets that no call tells apart
+pub record Alike (s s' : List ℕ) : Type 0 where
+  pub refusals : RefusedAlike s s'
+  pub silo : Layout s → OneSilo s s'
 
 module _ (s s' : List ℕ) where
   due-same : SameParts s s' → length-due s ≡ length-due s'
@@ -71,16 +78,21 @@ module _ (s s' : List ℕ) where
             ∙ ap (λ (c : Silo). number f c p-he (edge-of s (suc k))) silo;
       }
 
-  module _ (refusals : refusal-of s ≡ refusal-of s') (one : refusal-of s ≡ 0 → OneSilo s s') where
-    due-by : refusal-of s ≡ 0 → length-due s ≡ length-due s'
-    due-by h = due-same (one h .parts)
+  module _ (alike : Alike s s') where
+    pub measured-alike : length-refusal s ≡ 0 → OneSilo s s'
+    measured-alike h = alike .silo (measured s h .layout)
+
+    pub accepted-alike : refusal-of s ≡ 0 → OneSilo s s'
+    accepted-alike h = measured-alike (accepted-measured s h)
 
     pub one-length : answers-length s ≡ answers-length s'
-    one-length = told-same refusals due-by
+    one-length = told-same (alike .refusals .lengths) (λ h. due-same (measured-alike h .parts))
 
     answer-by : (n : ℕ) → first-unmet (loads-rules s n) ≡ first-unmet (loads-rules s' n)
     unfolding loads-rules
-    answer-by n = answers-alike s s' _ _ refusals (λ h. ap (λ (m : ℕ). first-unmet (14 unless eqb n m ∷ [])) (due-by h))
+    answer-by n =
+        answers-alike s s' _ _ (loads-alike s s' (alike .refusals))
+        (λ h. ap (λ (m : ℕ). first-unmet (14 unless eqb n m ∷ [])) (due-same (accepted-alike h .parts)))
 
     module _ (f : FillingNumbers) {lent left left' : List ℕ} {r r' : ℕ} (a : Promise f s lent r left) (b : Promise f s' lent r' left') where
       answers-same : r ≡ r'
@@ -89,7 +101,7 @@ module _ (s s' : List ℕ) where
       left-by : Dec (r ≤ 0) → left ≡ left'
       left-by (yes z) =
           let h : r ≡ 0 = omega (arith, z) in
-          let o : OneSilo s s' = one (not-refused s (length lent) (sym (a .answer) ∙ h)) in
+          let o : OneSilo s s' = accepted-alike (not-refused s (length lent) (sym (a .answer) ∙ h)) in
           filled-once f s left left' (a .filled h) (filled-same o f left' (b .filled (sym answers-same ∙ h)))
       left-by (no n) = a .unchanged (λ z. n (omega (arith, z))) ∙ sym (b .unchanged (λ z. n (omega (arith, z, answers-same))))
 

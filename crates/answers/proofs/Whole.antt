@@ -55,7 +55,7 @@ module _ (s : List ℕ) where
 
   pub fits-described : (d : Described) → d ≡ described-of s → refusal-of s ≡ 0 → Fits (silo-in d)
   fits-described d e h =
-      subst (λ (d : Described). Fits (silo-in d)) (sym e) (subst Fits (sym silo-described) (silo-fits s (accepted s h)))
+      subst (λ (d : Described). Fits (silo-in d)) (sym e) (subst Fits (sym silo-described) (silo-fits s (accepted s h .measured)))
 
   -- the depth i is read at its place
   pub depth-read : (i at : ℕ) → i < depth-count s → at ≡ payload s 5 + 4 * i → u32 s at ≡ depth s i
@@ -64,16 +64,16 @@ module _ (s : List ℕ) where
 
   module _ (h : refusal-of s ≡ 0) where
     pub basis-sound : Sound (basis-of s)
-    basis-sound = record { fits = silo-fits s (accepted s h); right = refl }
+    basis-sound = record { fits = silo-fits s (accepted s h .measured); right = refl }
 
     pub strakes-few : strake-count s ≤ 24
-    strakes-few = accepted s h .layout .strakes-few
+    strakes-few = accepted s h .measured .layout .strakes-few
 
     -- the depths begin inside the sheet, and are few
     pub depths-near : (payload s 5 ≤ 1024) × (depth-count s ≤ 200)
     unfolding payload
     depths-near =
-        let l = accepted s h .layout in
+        let l = accepted s h .measured .layout in
         (omega (arith, l .present 5 (omega (arith, six-least s)), l .size), l .depths-few)
 
     -- the wall of the silo described: its places, its strakes and its foot
@@ -86,4 +86,4 @@ module _ (s : List ℕ) where
 
     pub wall-reached : Reached (silo-of s) (sum (strakes-of s)) × (sum (strakes-of s) < 4294967296)
     unfolding V-of
-    wall-reached = (reached s (accepted s h) (V-of s) (omega arith), omega (arith, V-most s (accepted s h)))
+    wall-reached = (reached s (accepted s h .measured) (V-of s) (omega arith), omega (arith, V-most s (accepted s h .measured)))

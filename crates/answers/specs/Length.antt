@@ -5,7 +5,7 @@ use mathlib.Core.Bool.{cond}
 use mathlib.Core.List.{List}
 use lib.Dec.{eqb}
 use Rattle.description.specs.Silo.{strake-count, depth-count}
-use Rattle.sheet.specs.Refusal.{refusal-of}
+use Rattle.sheet.specs.Refusal.{length-refusal}
 use Rattle.answers.specs.Place.{strake-place}
 use Rattle.answers.specs.declared.length.Length.{Length}
 use Rattle.answers.specs.declared.length.Length.the-variants.{Due, Refused}
@@ -19,7 +19,7 @@ unfoldable pub told : ℕ → ℕ → Length
 told refused n = cond (eqb refused 0) (Due n) (Refused refused)
 
 abbrev pub answers-length : List ℕ → Length
-answers-length s = told (refusal-of s) (length-due s)
+answers-length s = told (length-refusal s) (length-due s)
 
 -- the number of each answer: a length is marked by 2^32, so that it can't be taken for a refusal
 unfoldable pub length-number : Length → ℕ

@@ -3,6 +3,7 @@ ghost use mathlib.Core.Path.{_≡_};
 ghost use Prim.Native.Nat.{_<_, _≤_};
 ghost use Rattle.answers.specs.Length.{told, answers-length, length-number};
 ghost use Rattle.answers.specs.Place.{strake-place};
+use sheet::Asked;
 
 // What a call that tells a length answers: the length due, or the refusal's number.
 pub enum Length {
@@ -22,7 +23,7 @@ pub fn length_due(depths: usize, strakes: usize) -> usize
 pub fn answers_length(sheet: &[u8]) -> Length
     ensures { λ r. ⌜ r ≡ answers-length (now (sheet .entry)) ⌝ }
 {
-    let judged = sheet::examine(sheet, 0);
+    let judged = sheet::examine(Asked::Length, sheet, 0);
     let described = judged.described;
     Length::told(
         judged.refused,

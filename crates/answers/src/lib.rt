@@ -1,6 +1,7 @@
 // The answer list of a sheet: the call that fills it. Document 01, "Answer list" and "Who can be refused"; document 02, C-13.
 ghost use Rattle.janssen.specs.program.Pressure.{computed};
 ghost use Rattle.answers.specs.Promise.{Promise};
+use sheet::Asked;
 
 pub mod fill; // the answer list, part by part
 pub mod length; // the call that tells its length
@@ -9,7 +10,7 @@ pub mod length; // the call that tells its length
 pub fn loads(sheet: &[u8], answers: &mut [u32]) -> u32
     ensures { λ r. ⌜ Promise computed (now (sheet .entry)) (now (answers .entry)) r (now (answers .exit)) ⌝ }
 {
-    let judged = sheet::examine(sheet, 0);
+    let judged = sheet::examine(Asked::Loads, sheet, 0);
     if judged.refused != 0 {
         return judged.refused;
     }

@@ -20,14 +20,14 @@ use Rattle.answers.specs.Answers.{silo-of, depth}
 use Rattle.answers.specs.Promise.{Promise}
 use Rattle.answers.specs.Factor.{with-factor, Blank}
 use Rattle.answers.proofs.Factor.{acts-as-155}
-use Rattle.cases.specs.Cases.{case-sheet, factor-sheet}
+use Rattle.cases.specs.Cases.{behind-section, case-sheet, factor-sheet}
 
 blank : Blank (factor-sheet 0)
-unfolding case-sheet place payload payload-length u16 u32 product-sent
+unfolding behind-section case-sheet place payload payload-length u16 u32 product-sent
 blank = record { ten = refl; inside = leb→le _ _ tt; blank = refl }
 
 written : with-factor 155 (factor-sheet 0) ≡ factor-sheet 155
-unfolding with-factor case-sheet payload place u16
+unfolding with-factor behind-section case-sheet payload place u16
 written = refl
 
 pub same-as-155 : (lent left left' : List ℕ) (r r' : ℕ) → Promise computed (factor-sheet 0) lent r left → Promise computed (factor-sheet 155) lent r' left'
@@ -37,11 +37,11 @@ same-as-155 lent left left' r r' a b =
 
 -- p_he of the second depth, 5,000
 p-he-beside : (number computed (silo-of (factor-sheet 0)) p-he (depth (factor-sheet 0) 1) ≡ 27276) × (number computed (silo-of (factor-sheet 135)) p-he (depth (factor-sheet 135) 1) ≡ 23756)
-unfolding case-sheet place payload payload-length kind u16 u32 numbers section-of product-sent product-of factor-read eccentricities-of bottom-of strake-count strakes-of depth-count depths-of sum V-of headroom-of record-count load-depth magnifier magnified-load filling pressure decay limit step P q z0 γR R Ks μ up lower between denominator entry table side-a side-b d-c
+unfolding behind-section case-sheet place payload payload-length kind u16 u32 numbers section-of product-sent product-of factor-read eccentricities-of bottom-of strake-count strakes-of depth-count depths-of sum V-of headroom-of record-count load-depth magnifier magnified-load filling pressure decay limit step P q z0 γR R Ks μ up lower between denominator entry table side-a side-b d-c
 p-he-beside = (refl, refl)
 
 pub other-than-135 : (lent left left' : List ℕ) → Promise computed (factor-sheet 0) lent 0 left → Promise computed (factor-sheet 135) lent 0 left' → left ≡ left' → ⊥
-unfolding case-sheet place payload-length u16 depth-count
+unfolding behind-section case-sheet place payload-length u16 depth-count
 other-than-135 lent left left' a b e =
     let x : getD left 13 0 ≡ 27276 = a .filled refl .at-depths p-he 1 (ltb→lt _ _ tt) ∙ p-he-beside .0 in
     let y : getD left' 13 0 ≡ 23756 = b .filled refl .at-depths p-he 1 (ltb→lt _ _ tt) ∙ p-he-beside .1 in

@@ -25,21 +25,22 @@ use Rattle.records.specs.Format.{u16, u32, numbers, place, kind, payload, paylo
 use Rattle.records.specs.Rules.{_unless_, first-unmet}
 use Rattle.records.proofs.Chain.{apart, skipped}
 use Rattle.description.specs.Silo.{section-of, product-sent, product-of, factor-read, eccentricities-of, bottom-of, strake-count, strakes-of, depth-count, depths-of, sum, V-of, headroom-of, h-of}
-use Rattle.sheet.specs.Refusal.{sides-met, strakes-met, depths-met, value-rules, rules-with, refusal-of}
+use Rattle.sheet.specs.Refusal.{sides-met, proportion-met, strakes-met, depths-met, later-rules, length-rules, value-rules, rules-with, length-refusal, refusal-of}
 use Rattle.sheet.proofs.Layouts.{layout-numbered}
+use Rattle.answers.specs.Length.{length-due, told}
 use Rattle.answers.specs.Answers.{silo-of}
 use Rattle.answers.proofs.Demand.{same-height}
-use Rattle.cases.specs.Cases.{case-sheet, case-product, case-silo, middle-number, OfHeight, Marked}
+use Rattle.cases.specs.Cases.{behind-section, case-sheet, rectangle-sheet, case-product, case-silo, middle-number, OfHeight, Marked}
 use Rattle.cases.proofs.Pairs.{filling-pair, wall-load-pair}
 use Rattle.cases.proofs.Factor.{same-as-155, other-than-135}
 
 -- the rules before 12 are passed over, and the shape is judged by h alone
 by-shape : (h : ℕ) (s : List ℕ) → OfHeight h s → refusal-of s ≡ first-unmet (12 unless ltb h 50000 ∷ [])
-unfolding refusal-of rules-with value-rules
+unfolding refusal-of rules-with value-rules later-rules
 by-shape h s u =
-    let shape = drop 7 (value-rules true s) in
-    let p = apart (take 7 (value-rules true s)) (layout-rules s) (layout-numbered s) (u .before) in
-    let q = skipped shape (take 7 (value-rules true s)) refl (p .1) in
+    let shape = drop 8 (value-rules true s) in
+    let p = apart (take 8 (value-rules true s)) (layout-rules s) (layout-numbered s) (u .before) in
+    let q = skipped shape (take 8 (value-rules true s)) refl (p .1) in
     skipped (value-rules true s) (layout-rules s) (layout-numbered s) (p .0) ∙ q ∙ simp (u .width, u .height)
 
 -- h 7,499 over 5,000: C_h is 1 + 0.8·2,499/5,000 at C0 140, C_w 1 + 0.2·2,499/5,000
@@ -96,7 +97,7 @@ middle p-we = refl
 middle p-p = refl
 
 pub marked : Marked computed
-unfolding load-depth D N magnifier magnified-load patch-load filling pressure wall-load load loaded-depth z0-scaled decay limit step P q z0 γR R Ks μ up lower between denominator entry table case-sheet refusal-of value-rules rules-with first-unmet layout-rules record-count records-rules record-rules allowed place payload payload-length kind u16 u32 numbers section-of product-sent eccentricities-of bottom-of strake-count strakes-of depth-count depths-of sum V-of headroom-of h-of sides-met strakes-met depths-met side-a side-b d-c product-of factor-read
+unfolding load-depth D N magnifier magnified-load patch-load filling pressure wall-load load loaded-depth z0-scaled decay limit step P q z0 γR R Ks μ up lower between denominator entry table behind-section case-sheet rectangle-sheet refusal-of length-refusal value-rules later-rules rules-with length-rules told length-due first-unmet layout-rules record-count records-rules record-rules allowed place payload payload-length kind u16 u32 numbers section-of product-sent eccentricities-of bottom-of strake-count strakes-of depth-count depths-of sum V-of headroom-of h-of sides-met proportion-met strakes-met depths-met side-a side-b d-c product-of factor-read
 marked =
     record {
       described = refl;
@@ -122,6 +123,9 @@ marked =
       behind-seventh = refl;
       g-9999 = refl;
       g-10000 = refl;
+      three-times = (refl, refl);
+      over-three-times = (refl, refl);
+      length-told = (refl, refl);
       e-1250 = refl;
       e-1251 = refl;
       H-364 = refl;

@@ -1,4 +1,5 @@
--- Document 01, "Cases": those marked (m), as one statement; of document 02 those of C-11, C-13 and C-14. A circle of 5,000, γ 9,000, Ks 50, depths 0 and 5,000.
+-- Document 01, "Cases": those marked (m), as one statement; of document 02 those of C-11, C-13, C-14
+-- and C-17. A circle of 5,000, γ 9,000, Ks 50, depths 0 and 5,000.
 use Prim.Native.Nat.{ℕ}
 use mathlib.Core.List.{List, [], _∷_, _++_}
 use mathlib.Core.Logic.{_⊎_}
@@ -21,6 +22,8 @@ use Rattle.loads.specs.Load.{number}
 use Rattle.loads.specs.Load.Load.{listed-depth, p-hf, p-wf, p-vf, P-w, p-he, p-we, p-p}
 use Rattle.loads.specs.Holds.{Holds}
 use Rattle.sheet.specs.Refusal.{value-rules, refusal-of}
+use Rattle.answers.specs.declared.length.Length.the-variants.{Due}
+use Rattle.answers.specs.Length.{answers-length}
 use Rattle.answers.specs.Answers.{silo-of}
 use Rattle.answers.specs.Promise.{Promise}
 
@@ -29,19 +32,25 @@ abbrev pub heights : List ℕ → List ℕ
 heights [] = []
 heights (x ∷ l) = two-bytes x ++ heights l
 
--- the sheet with μ, C0, e_i, H, r and the strakes given
-unfoldable pub case-sheet : ℕ → ℕ → ℕ → ℕ → ℕ → List ℕ → List ℕ
-case-sheet friction factor e H r strakes =
-    record-bytes 1 (four-bytes 5000)
-    ++ record-bytes 3 (four-bytes 9000 ++ two-bytes 50 ++ two-bytes friction ++ two-bytes factor)
+-- the records behind the section, with μ, C0, e_i, H, r and the strakes given
+unfoldable pub behind-section : ℕ → ℕ → ℕ → ℕ → ℕ → List ℕ → List ℕ
+behind-section friction factor e H r strakes =
+    record-bytes 3 (four-bytes 9000 ++ two-bytes 50 ++ two-bytes friction ++ two-bytes factor)
     ++ record-bytes 4 (four-bytes e ++ four-bytes 0)
     ++ record-bytes 5 (four-bytes H ++ four-bytes r)
     ++ record-bytes 6 (heights strakes)
     ++ record-bytes 7 (four-bytes 0 ++ four-bytes 5000)
 
+unfoldable pub case-sheet : ℕ → ℕ → ℕ → ℕ → ℕ → List ℕ → List ℕ
+case-sheet friction factor e H r strakes = record-bytes 1 (four-bytes 5000) ++ behind-section friction factor e H r strakes
+
 -- five strakes of 2,000
 abbrev pub five : List ℕ
 five = 2000 ∷ 2000 ∷ 2000 ∷ 2000 ∷ 2000 ∷ []
+
+-- the sheet of the cases over a rectangle in the circle's place
+unfoldable pub rectangle-sheet : ℕ → ℕ → List ℕ
+rectangle-sheet a b = record-bytes 2 (four-bytes a ++ four-bytes b) ++ behind-section 40 140 0 0 0 five
 
 -- the sheet of the cases with another C0
 abbrev pub factor-sheet : ℕ → List ℕ
@@ -51,9 +60,9 @@ factor-sheet C0 = case-sheet 40 C0 0 0 0 five
 abbrev pub followed-by : List ℕ → List ℕ
 followed-by t = factor-sheet 140 ++ t
 
--- a sheet of that h with d_c = 5,000 that no rule before 12 refuses: 1 to 5 on its records, and the first seven on its values
+-- a sheet of that h with d_c = 5,000 that no rule before 12 refuses: 1 to 5 on its records, and the first eight on its values
 pub record OfHeight (h : ℕ) (s : List ℕ) : Type 0 where
-  pub before : first-unmet (layout-rules s ++ take 7 (value-rules true s)) ≡ 0
+  pub before : first-unmet (layout-rules s ++ take 8 (value-rules true s)) ≡ 0
   pub width : d-c (section-of s) ≡ 5000
   pub height : h-of s ≡ h
 
@@ -118,6 +127,10 @@ pub record Marked (f : FillingNumbers) : Type 0 where
   -- g 9,999 accepted, g 10,000 = V gives 17
   pub g-9999 : refusal-of (followed-by (record-bytes 8 (four-bytes 9999))) ≡ 0
   pub g-10000 : refusal-of (followed-by (record-bytes 8 (four-bytes 10000))) ≡ 17
+  -- sides of 5,000 and 15,000 accepted, 5,000 and 15,001 give 20, either side first; the length of their lists is told (document 02, C-17)
+  pub three-times : (refusal-of (rectangle-sheet 5000 15000) ≡ 0) × (refusal-of (rectangle-sheet 15000 5000) ≡ 0)
+  pub over-three-times : (refusal-of (rectangle-sheet 5000 15001) ≡ 20) × (refusal-of (rectangle-sheet 15001 5000) ≡ 20)
+  pub length-told : (answers-length (rectangle-sheet 5000 15001) ≡ Due 31) × (answers-length (rectangle-sheet 15001 5000) ≡ Due 31)
   -- e 1,250 accepted, 1,251 gives 8; r 1,000 with H 364 accepted, H 363 gives 9
   pub e-1250 : refusal-of (case-sheet 40 140 1250 0 0 five) ≡ 0
   pub e-1251 : refusal-of (case-sheet 40 140 1251 0 0 five) ≡ 8

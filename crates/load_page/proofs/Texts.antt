@@ -15,7 +15,8 @@ use Rattle.text.specs.Text.{ascii, line-feed, digit}
 use Rattle.text.proofs.Fields.{single, double}
 use Rattle.records.specs.Rules.{_unless_, first-unmet}
 use Rattle.janssen.specs.program.Pressure.{computed}
-use Rattle.sheet.specs.Refusal.{refusal-of}
+use Rattle.sheet.specs.Refusal.{length-refusal, refusal-of}
+use Rattle.sheet.proofs.Chains.{accepted-measured}
 use Rattle.answers.specs.declared.length.Length.{Length}
 use Rattle.answers.specs.declared.length.Length.the-variants.{Due, Refused}
 use Rattle.answers.proofs.LengthLaws.{told-due}
@@ -83,4 +84,4 @@ told-number (Due n) = n
 told-number (Refused r) = 0
 
 pub told-of-page : (s : List ℕ) (l : Length) → l ≡ page-length s → refusal-of s ≡ 0 → told-number l ≡ page-due s
-told-of-page s l e h = ap told-number (e ∙ told-due (refusal-of s) (page-due s) h)
+told-of-page s l e h = ap told-number (e ∙ told-due (length-refusal s) (page-due s) (accepted-measured s h))

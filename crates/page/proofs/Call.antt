@@ -2,6 +2,7 @@
 -- Assumes nothing.
 use Prim.Native.Nat.{ℕ, _+_, _≤_, _<_}
 use mathlib.Core.Bool.{true}
+use mathlib.Core.Logic.{_⊎_}
 use mathlib.Core.Path.{_≡_, refl, ap, sym, _∙_}
 use mathlib.Core.List.{List, [], _∷_, _++_}
 use native.Mathlib.Omega.{arith}
@@ -10,16 +11,19 @@ use lib.Dec.{leb}
 use lib.ListN.{length, drop}
 use lib.Seq.{sets, sets-eq}
 use Rattle.records.specs.Rules.{_unless_, first-unmet}
+use Rattle.janssen.specs.Numbers.{FillingNumbers}
 use Rattle.janssen.specs.program.Pressure.{computed}
 use Rattle.description.specs.Silo.{depth-count}
 use Rattle.description.specs.declared.Described.{Described}
 use Rattle.description.specs.program.Described.{wall-of, described-of}
-use Rattle.sheet.specs.Refusal.{refusal-of}
-use Rattle.sheet.proofs.Acceptance.{sheet-first, sheet-passed, call-never-13}
+use Rattle.sheet.specs.Refusal.{length-refusal, refusal-of}
+use Rattle.sheet.proofs.Chains.{sheet-first, sheet-passed, call-never-13, call-or-20, call-measured-20}
+use Rattle.answers.specs.declared.length.Length.the-variants.{Due, Refused}
 use Rattle.answers.specs.program.Fill.{answers}
+use Rattle.answers.proofs.LengthLaws.{due-told, refused-told}
 use Rattle.answers.proofs.Places.{answers-filled}
 use Rattle.answers.proofs.Demand.{claim}
-use Rattle.page.specs.Page.{page, page-size, page-due, page-rules}
+use Rattle.page.specs.Page.{page, page-size, page-due, page-length, page-rules}
 use Rattle.page.specs.Promise.{PagePromise}
 use Rattle.page.specs.program.Text.{page-text}
 use Rattle.page.proofs.Lines.{page-text-length}
@@ -44,6 +48,20 @@ module _ (s : List ℕ) (n : ℕ) where
   pub last-of-page : refusal-of s ≡ 0 → first-unmet (page-rules s n) ≡ first-unmet (18 unless leb (page-due s) n ∷ [])
   unfolding page-rules
   last-of-page h = sheet-passed s _ h
+
+-- beside its length call (document 02, C-17): the refusal that it answers, or 20; and 20 where it tells a length, for which the buffer has room
+module _ {f : FillingNumbers} {s lent left : List ℕ} {r : ℕ} (p : PagePromise f s lent r left) where
+  pub refused-or-20 : (k : ℕ) → page-length s ≡ Refused k → (r ≡ k) ⊎ (r ≡ 20)
+  unfolding page-rules
+  refused-or-20 k e =
+      let told = refused-told (length-refusal s) (page-due s) k e in
+      rw (p .answer, sym (told .1)) (call-or-20 s _ (told .0))
+
+  pub measured-refused : (n : ℕ) → page-length s ≡ Due n → n ≤ length lent → (r ≡ 0 → ⊥) → r ≡ 20
+  unfolding page-rules first-unmet
+  measured-refused n e room refused =
+      let told = due-told (length-refusal s) (page-due s) n e in
+      p .answer ∙ call-measured-20 s _ (told .0) (simp (le-leb (page-due s) (length lent) (omega (arith, told .1, room)))) (λ o. refused (p .answer ∙ o))
 
 -- an accepted sheet's page is what the program writes, of the length told
 module _ (s : List ℕ) (h : refusal-of s ≡ 0) where

@@ -12,15 +12,15 @@ use Rattle.records.specs.Rules.{_unless_, first-unmet}
 use Rattle.janssen.specs.program.Pressure.{computed}
 use Rattle.records.specs.Format.{place}
 use Rattle.sheet.specs.Refusal.{refusal-of}
-use Rattle.sheet.proofs.Acceptance.{sheet-met, answers-alike}
-use Rattle.sheet.proofs.Parts.{SameParts}
+use Rattle.sheet.proofs.Chains.{sheet-met, answers-alike}
+use Rattle.sheet.proofs.Parts.{SameParts, loads-alike}
 use Rattle.answers.specs.Factor.{with-factor, Blank}
 use Rattle.answers.specs.program.Fill.{answers}
 use Rattle.answers.proofs.LengthLaws.{told-same}
 use Rattle.answers.proofs.Places.{answers-filled}
-use Rattle.answers.proofs.OneSilo.{OneSilo, filled-same}
-use Rattle.answers.proofs.Headroom.{level, level-refusal, level-silo}
-use Rattle.answers.proofs.Factor.{same-refusal, same-silo}
+use Rattle.answers.proofs.OneSilo.{OneSilo, Alike, filled-same, measured-alike, accepted-alike}
+use Rattle.answers.proofs.Headroom.{level, level-alike}
+use Rattle.answers.proofs.Factor.{blank-alike}
 use Rattle.page.specs.Page.{page, page-due, page-length, page-rules}
 use Rattle.page.specs.Promise.{PagePromise}
 use Rattle.page.specs.program.Text.{page-text}
@@ -38,13 +38,15 @@ module _ (s s' : List ℕ) where
       ∙ ap (page-text (answers s')) (o .parts .depth-counts)
       ∙ page-named computed s' (answers s') (answers-filled s')
 
-  module _ (refusals : refusal-of s ≡ refusal-of s') (one : refusal-of s ≡ 0 → OneSilo s s') where
+  module _ (alike : Alike s s') where
     pub one-page-length : page-length s ≡ page-length s'
-    one-page-length = told-same refusals (λ h. due-same (one h .parts))
+    one-page-length = told-same (alike .refusals .lengths) (λ h. due-same (measured-alike s s' alike h .parts))
 
     answer-by : (n : ℕ) → first-unmet (page-rules s n) ≡ first-unmet (page-rules s' n)
     unfolding page-rules
-    answer-by n = answers-alike s s' _ _ refusals (λ h. ap (λ (m : ℕ). first-unmet (18 unless leb m n ∷ [])) (due-same (one h .parts)))
+    answer-by n =
+        answers-alike s s' _ _ (loads-alike s s' (alike .refusals))
+        (λ h. ap (λ (m : ℕ). first-unmet (18 unless leb m n ∷ [])) (due-same (accepted-alike s s' alike h .parts)))
 
     module _ {lent left left' : List ℕ} {r r' : ℕ} (a : PagePromise computed s lent r left) (b : PagePromise computed s' lent r' left') where
       answers-same : r ≡ r'
@@ -57,7 +59,7 @@ module _ (s s' : List ℕ) where
       left-by : Dec (r ≤ 0) → left ≡ left'
       left-by (yes z) =
           let h : r ≡ 0 = omega (arith, z) in
-          let o : OneSilo s s' = one (accepted-by h) in
+          let o : OneSilo s s' = accepted-alike s s' alike (accepted-by h) in
           a .written h ∙ rw (page-same o, due-same (o .parts)) refl ∙ sym (b .written (sym answers-same ∙ h))
       left-by (no n) = a .unchanged (λ z. n (omega (arith, z))) ∙ sym (b .unchanged (λ z. n (omega (arith, z, answers-same))))
 
@@ -67,17 +69,17 @@ module _ (s s' : List ℕ) where
 -- a sheet of six records, and a headroom of 0 behind it
 module _ (s : List ℕ) (six : place s 6 ≡ length s) (short : length s + 8 ≤ 1024) where
   pub level-page-length : page-length s ≡ page-length (s ++ level)
-  level-page-length = one-page-length s (s ++ level) (level-refusal s six short) (level-silo s six short)
+  level-page-length = one-page-length s (s ++ level) (level-alike s six short)
 
   pub level-page : (lent left left' : List ℕ) (r r' : ℕ) → PagePromise computed s lent r left → PagePromise computed (s ++ level) lent r' left'
       → (r ≡ r') × (left ≡ left')
-  level-page lent left left' r r' a b = one-page s (s ++ level) (level-refusal s six short) (level-silo s six short) a b
+  level-page lent left left' r r' a b = one-page s (s ++ level) (level-alike s six short) a b
 
 -- a blank factor, and 155 written in
 module _ (s : List ℕ) (b : Blank s) where
   pub blank-page-length : page-length s ≡ page-length (with-factor 155 s)
-  blank-page-length = one-page-length s (with-factor 155 s) (same-refusal s b) (same-silo s b)
+  blank-page-length = one-page-length s (with-factor 155 s) (blank-alike s b)
 
   pub page-acts-as-155 : (lent left left' : List ℕ) (r r' : ℕ) → PagePromise computed s lent r left → PagePromise computed (with-factor 155 s) lent r' left'
       → (r ≡ r') × (left ≡ left')
-  page-acts-as-155 lent left left' r r' p q = one-page s (with-factor 155 s) (same-refusal s b) (same-silo s b) p q
+  page-acts-as-155 lent left left' r r' p q = one-page s (with-factor 155 s) (blank-alike s b) p q

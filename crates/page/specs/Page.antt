@@ -7,7 +7,7 @@ use Rattle.text.specs.Text.{ascii, line-feed, decimal, field}
 use Rattle.records.specs.Rules.{Rule, _unless_}
 use Rattle.janssen.specs.Numbers.{FillingNumbers}
 use Rattle.description.specs.Silo.{strake-count, depth-count, edge-of}
-use Rattle.sheet.specs.Refusal.{sheet-rules, refusal-of}
+use Rattle.sheet.specs.Refusal.{sheet-rules, length-refusal}
 use Rattle.loads.specs.declared.Silo.{Silo}
 use Rattle.loads.specs.Load.{Load}
 use Rattle.loads.specs.Load.{number, bottom-numbers}
@@ -64,7 +64,7 @@ page-due s = page-size (depth-count s) (strake-count s)
 
 -- what its length call answers
 abbrev pub page-length : List ℕ → Length
-page-length s = told (refusal-of s) (page-due s)
+page-length s = told (length-refusal s) (page-due s)
 
 -- the rules of the page call, lent a buffer of so many bytes: those of the sheet, then 18
 unfoldable pub page-rules : List ℕ → ℕ → List Rule

@@ -5,6 +5,7 @@ ghost use Rattle.janssen.specs.program.Pressure.{computed};
 ghost use Rattle.page.specs.Page.{page-size, page-length};
 ghost use Rattle.page.specs.Promise.{PagePromise};
 use answers::length::Length;
+use sheet::Asked;
 
 mod fill; // the page, line by line
 
@@ -20,7 +21,7 @@ fn page_due(depths: usize, strakes: usize) -> usize
 pub fn page_length(sheet: &[u8]) -> Length
     ensures { λ r. ⌜ r ≡ page-length (now (sheet .entry)) ⌝ }
 {
-    let judged = sheet::examine(sheet, 0);
+    let judged = sheet::examine(Asked::Length, sheet, 0);
     let described = judged.described;
     Length::told(
         judged.refused,
@@ -32,7 +33,7 @@ pub fn page_length(sheet: &[u8]) -> Length
 pub fn page(sheet: &[u8], out: &mut [u8]) -> u32
     ensures { λ r. ⌜ PagePromise computed (now (sheet .entry)) (now (out .entry)) r (now (out .exit)) ⌝ }
 {
-    let judged = sheet::examine(sheet, 0);
+    let judged = sheet::examine(Asked::Loads, sheet, 0);
     if judged.refused != 0 {
         return judged.refused;
     }

@@ -5,12 +5,14 @@
 --     apart          no refusal in the whole: none in each part
 --     chains-alike   two wholes with the same refusals in their parts
 --     next, last     the rules tried one after the other: one that is met leaves those behind it; one that is not is the refusal
+--     inserted       a rule put between others is the refusal, or leaves it
 --     absent         a number that no rule has is never the refusal
 --     first-below    the refusal is below what all numbers are below
 -- A refusal is told from 0 by its number, so that the numbers have to be positive (`numbered`): a test that computes for every chain.
 use Prim.Native.Nat.{ℕ, zero, suc, _≤_, _<_}
 use mathlib.Core.Bool.{Bool, true, false, cond, _&&_, _||_, false≢true}
 use mathlib.Core.List.{List, [], _∷_, _++_}
+use mathlib.Core.Logic.{_⊎_, inl, inr}
 use mathlib.Core.Path.{_≡_, refl, sym, _∙_}
 use native.Mathlib.Decide.{decLe}
 use native.Mathlib.Omega.{arith}
@@ -104,6 +106,19 @@ unfolding first-unmet
 last [] i h = absurd (false≢true (sym h))
 last (r ∷ l) zero h = rw h refl
 last (r ∷ l) (suc i) h = last l i h
+
+either-first : (m : Bool) (k n : ℕ) → (cond m n k ≡ n) ⊎ (cond m n k ≡ k)
+either-first true k n = inl refl
+either-first false k n = inr refl
+
+either-behind : (m : Bool) (k : ℕ) {x y n : ℕ} → (x ≡ y) ⊎ (x ≡ n) → (cond m x k ≡ cond m y k) ⊎ (cond m x k ≡ n)
+either-behind true k h = h
+either-behind false k h = inl refl
+
+pub inserted : (a : List Rule) (r : Rule) (b : List Rule) → (first-unmet (a ++ (r ∷ b)) ≡ first-unmet (a ++ b)) ⊎ (first-unmet (a ++ (r ∷ b)) ≡ r .number)
+unfolding first-unmet
+inserted [] r b = either-first (r .met) (r .number) (first-unmet b)
+inserted (q ∷ a) r b = either-behind (q .met) (q .number) (inserted a r b)
 
 -- whether a number is that of a rule
 abbrev pub has : List Rule → ℕ → Bool

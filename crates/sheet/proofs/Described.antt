@@ -13,9 +13,10 @@ use Rattle.janssen.specs.Section.{d-c}
 use Rattle.janssen.specs.program.Range.{Within, InRange}
 use Rattle.description.specs.Silo.{section-of, product-sent, product-of, factor-read, strakes-of, strake-count, depths-of, sum, V-of, headroom-of, h-of, edge-of}
 use Rattle.description.specs.program.Described.{wall-of, described-of}
-use Rattle.sheet.specs.Refusal.{value-rules}
-use Rattle.sheet.specs.program.Judged.{described-rules}
-use Rattle.sheet.specs.Accepted.{Accepted}
+use Rattle.sheet.specs.declared.Asked.{Asked}
+use Rattle.sheet.specs.Refusal.{later-rules}
+use Rattle.sheet.specs.program.Judged.{asked-values, described-rules}
+use Rattle.sheet.specs.Accepted.{Measured}
 use Rattle.description.proofs.Walls.{strakes-length, wall-fits}
 use Rattle.description.proofs.Sums.{sum-next, sum-take}
 
@@ -37,9 +38,10 @@ factor-range c x =
     x
 
 -- the rules of the silo described are those of the sheet's values
-pub described-judged : (s : List ℕ) (z : ℕ) → strake-count s ≤ 24 → described-rules (described-of s) (depths-of s) z ≡ value-rules (leb z (V-of s)) s
-unfolding described-rules value-rules wall-of h-of
-described-judged s z h = rw (wall-fits s h .1) refl
+pub described-judged : (asked : Asked) (s : List ℕ) (z : ℕ) → strake-count s ≤ 24
+    → described-rules asked (described-of s) (depths-of s) z ≡ asked-values asked (leb z (V-of s)) s
+unfolding described-rules asked-values later-rules wall-of h-of
+described-judged asked s z h = rw (wall-fits s h .1) refl
 
 module _ (s : List ℕ) where
   -- the edges: 0 at the brim, V at the foot, each below the one before by its strake. C-22 asks for these.
@@ -59,7 +61,7 @@ module _ (s : List ℕ) where
   unfolding edge-of V-of
   edge-most k = sum-take (strakes-of s) k
 
-  module _ (a : Accepted s) where
+  module _ (a : Measured s) where
     pub edge-rises : (k : ℕ) → k < strake-count s → edge-of s k < edge-of s (suc k)
     edge-rises k h =
         let e = edge-next k h in

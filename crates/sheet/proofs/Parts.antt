@@ -1,6 +1,6 @@
 -- What two sheets describe alike. Each part of the silo is read from one record, so a record that both have at one place with equal bytes
 -- (`SameRecord`) makes its part the same; s has its records in order. With every part but the product the same (`SameParts`) the rules are the same but
--- for 7 (`values-same`), and sheets with the same rules have the same refusal (`refusal-same`).
+-- for 7 (`values-same`), and sheets with the same rules are refused alike (`refused-alike`).
 use Prim.Native.Nat.{ℕ, _+_, _/_, _≤_, _<_}
 use mathlib.Core.List.{List}
 use mathlib.Core.Logic.{⊎-elim}
@@ -13,10 +13,13 @@ use Rattle.records.specs.Format.{u16, u32, place, kind, payload, payload-length
 use Rattle.records.proofs.Records.{place-next}
 use Rattle.records.proofs.Alike.{SameBytes, SameRecord, u16-same, u32-same, two-in, four-in, payload-length-same, kind-same, pair-same, list-same}
 use Rattle.description.specs.Silo.{section-of, product-sent, eccentricities-of, bottom-of, strake-count, strakes-of, depth-count, depths-of, V-of, headroom-of, h-of}
-use Rattle.sheet.specs.Refusal.{product-met, value-rules, sheet-rules-at, refusal-of}
+use Rattle.sheet.specs.declared.Asked.{Asked}
+use Rattle.sheet.specs.declared.Asked.the-variants.{Length, Loads}
+use Rattle.sheet.specs.Refusal.{product-met, later-rules, sheet-rules-at, length-refusal, refusal-of}
+use Rattle.sheet.specs.program.Judged.{asked-values, asked-rules}
 use Rattle.sheet.specs.Accepted.{Layout}
 use Rattle.sheet.proofs.Layouts.{layout-of}
-use Rattle.sheet.proofs.Acceptance.{records-refused, values-refused, at-brim}
+use Rattle.sheet.proofs.Chains.{records-refused, values-refused, loads-asked, length-asked, at-brim}
 
 -- γ, Ks and μ stand in the twelve bytes of the second record before C0
 pub means-same : (s s' : List ℕ) → place s 1 ≡ place s' 1 → SameBytes s s' (place s 1) (place s 1 + 12)
@@ -93,6 +96,11 @@ pub record SameParts (s s' : List ℕ) : Type 0 where
   pub depths : depths-of s ≡ depths-of s'
   pub headrooms : headroom-of s ≡ headroom-of s'
 
+-- one refusal in every call, with any depth given beside the sheets
+pub record RefusedAlike (s s' : List ℕ) : Type 0 where
+  pub lengths : length-refusal s ≡ length-refusal s'
+  pub loads-at : (z : ℕ) → first-unmet (sheet-rules-at s z) ≡ first-unmet (sheet-rules-at s' z)
+
 module _ (s s' : List ℕ) where
   pub same-parts : Layout s → ((k : ℕ) → k < 6 → (k ≡ 1 → ⊥) → SameRecord s s' k) → headroom-of s ≡ headroom-of s' → SameParts s s'
   same-parts l r g =
@@ -109,26 +117,34 @@ module _ (s s' : List ℕ) where
         headrooms = g;
       }
 
-  -- the rules of the values, with a depth z given
-  abbrev pub SameRules : ℕ → Type 0
-  SameRules z = value-rules (leb z (V-of s)) s ≡ value-rules (leb z (V-of s')) s'
+  -- the rules of the values, whatever is asked for and with any depth given
+  abbrev pub SameRules : Type 0
+  SameRules = (asked : Asked) (z : ℕ) → asked-values asked (leb z (V-of s)) s ≡ asked-values asked (leb z (V-of s')) s'
 
-  pub values-same : SameParts s s' → product-met (product-sent s) ≡ product-met (product-sent s') → (z : ℕ) → SameRules z
-  unfolding value-rules h-of V-of
-  values-same p e z = rw (p .sections, e, p .eccentricities, p .bottoms, p .strakes, p .depths, p .headrooms) refl
+  pub values-same : SameParts s s' → product-met (product-sent s) ≡ product-met (product-sent s') → SameRules
+  unfolding asked-values later-rules h-of V-of
+  values-same p e asked z = rw (p .sections, e, p .eccentricities, p .bottoms, p .strakes, p .depths, p .headrooms) refl
 
   -- rules 1 to 5 answer the same, and the others are the same where those pass
-  module _ (records : first-unmet (layout-rules s) ≡ first-unmet (layout-rules s')) (values : Layout s → (z : ℕ) → SameRules z) where
-    refusal-by : (z : ℕ) → Dec (first-unmet (layout-rules s) ≤ 0) → first-unmet (sheet-rules-at s z) ≡ first-unmet (sheet-rules-at s' z)
-    refusal-by z (yes o) =
-        let h : first-unmet (layout-rules s) ≡ 0 = omega arith in
-        sym (values-refused (leb z (V-of s)) s h refl) ∙ ap first-unmet (values (layout-of s h) z) ∙ values-refused (leb z (V-of s')) s' (sym records ∙ h) refl
-    refusal-by z (no o) =
-        let n : first-unmet (layout-rules s) ≡ 0 → ⊥ = λ e. o (omega (arith, e)) in
-        sym (records-refused (leb z (V-of s)) s refl n) ∙ records ∙ records-refused (leb z (V-of s')) s' refl (λ e. n (records ∙ e))
+  module _ (records : first-unmet (layout-rules s) ≡ first-unmet (layout-rules s')) (values : Layout s → SameRules) where
+    module _ (asked : Asked) (z : ℕ) where
+      same-by : Dec (first-unmet (layout-rules s) ≤ 0) → first-unmet (asked-rules asked z s) ≡ first-unmet (asked-rules asked z s')
+      same-by (yes o) =
+          let h : first-unmet (layout-rules s) ≡ 0 = omega arith in
+          sym (values-refused asked z s h refl) ∙ ap first-unmet (values (layout-of s h) asked z) ∙ values-refused asked z s' (sym records ∙ h) refl
+      same-by (no o) =
+          let n : first-unmet (layout-rules s) ≡ 0 → ⊥ = λ e. o (omega (arith, e)) in
+          sym (records-refused asked z s refl n) ∙ records ∙ records-refused asked z s' refl (λ e. n (records ∙ e))
 
-    pub refusal-at-same : (z : ℕ) → first-unmet (sheet-rules-at s z) ≡ first-unmet (sheet-rules-at s' z)
-    refusal-at-same z = refusal-by z (decLe (first-unmet (layout-rules s)) 0)
+      asked-same : first-unmet (asked-rules asked z s) ≡ first-unmet (asked-rules asked z s')
+      asked-same = same-by (decLe (first-unmet (layout-rules s)) 0)
 
-    pub refusal-same : refusal-of s ≡ refusal-of s'
-    refusal-same = sym (at-brim s) ∙ refusal-at-same 0 ∙ at-brim s'
+    pub refused-alike : RefusedAlike s s'
+    refused-alike =
+        record {
+          lengths = sym (length-asked s) ∙ asked-same Length 0 ∙ length-asked s';
+          loads-at = λ z. sym (ap first-unmet (loads-asked z s)) ∙ asked-same Loads z ∙ ap first-unmet (loads-asked z s');
+        }
+
+  pub loads-alike : RefusedAlike s s' → refusal-of s ≡ refusal-of s'
+  loads-alike r = sym (at-brim s) ∙ r .loads-at 0 ∙ at-brim s'

@@ -1,10 +1,12 @@
--- Acceptance in plain inequalities: what a sheet that is not refused has. Document 01, "Sheet" and "Who can be refused"; document 02, C-13.
-use Prim.Native.Nat.{ℕ, suc, _+_, _*_, _≤_, _<_}
+-- Acceptance in plain inequalities: what a sheet that is not refused has. Document 01, "Sheet" and "Who can be refused"; document 02, C-13
+-- and C-17.
+use Prim.Native.Nat.{ℕ, suc, _+_, _*_, _≤_, _<_, min, max}
 use mathlib.Core.List.{List}
 use mathlib.Core.Logic.{_⊎_}
 use mathlib.Core.Path.{_≡_}
 use lib.ListN.{length, getD}
 use Rattle.janssen.specs.declared.Section.{Section}
+use Rattle.janssen.specs.declared.Section.the-variants.{Rectangle}
 use Rattle.janssen.specs.declared.Product.{Product}
 use Rattle.janssen.specs.Section.{d-c}
 use Rattle.janssen.specs.program.Range.{Within, InRange}
@@ -56,7 +58,8 @@ pub record Values (c : Section) (p : Product) (e : Eccentricities) (b : Bottom) 
   -- 9
   pub bottom-shape : ((b .height ≡ 0) × (b .run ≡ 0)) ⊎ Hopper (d-c c) b
 
-pub record Accepted (s : List ℕ) : Type 0 where
+-- what a sheet has whose length is told
+pub record Measured (s : List ℕ) : Type 0 where
   -- 1 to 5
   pub layout : Layout s
   -- 6 to 9
@@ -70,3 +73,9 @@ pub record Accepted (s : List ℕ) : Type 0 where
   pub headroom-less : headroom-of s < V-of s
   -- 12
   pub below-ten : h-of s < 10 * d-c (section-of s)
+
+-- what a sheet has whose loads are worked out
+pub record Accepted (s : List ℕ) : Type 0 where
+  pub measured : Measured s
+  -- 20
+  pub proportion : (a b : ℕ) → section-of s ≡ Rectangle a b → max a b ≤ 3 * min a b

@@ -1,9 +1,11 @@
--- The rules of a sheet in order, and the first refusal that applies to it. Document 01, "Who can be refused"; document 02, C-13 and C-16.
-use Prim.Native.Nat.{ℕ, _+_, _*_}
+-- The rules of a sheet in order, and the first refusal that applies to it. Document 01, "Who can be refused"; document 02, C-13, C-16 and
+-- C-17. Two chains: a call that only tells a length or a count has the rules of the other calls less one, 20.
+use Prim.Native.Nat.{ℕ, _+_, _*_, min, max}
 use mathlib.Core.Bool.{Bool, true, _&&_, _||_}
 use mathlib.Core.List.{List, [], _∷_, _++_}
 use lib.Dec.{leb, ltb, eqb}
 use Rattle.janssen.specs.declared.Section.{Section}
+use Rattle.janssen.specs.declared.Section.the-variants.{Circle, Rectangle}
 use Rattle.janssen.specs.declared.Product.{Product}
 use Rattle.janssen.specs.Section.{side-a, side-b, d-c}
 use Rattle.description.specs.declared.Eccentricities.{Eccentricities}
@@ -18,6 +20,11 @@ side-met = within 500 50000
 
 unfoldable pub sides-met : Section → Bool
 sides-met c = side-met (side-a c) && side-met (side-b c)
+
+-- 20: the long side of a rectangle at most three times the short one
+unfoldable pub proportion-met : Section → Bool
+proportion-met (Circle d) = true
+proportion-met (Rectangle a b) = leb (max a b) (3 * min a b)
 
 -- 7: γ from 1,000 to 30,000, Ks from 20 to 100, μ from 10 to 100, C0 0 or from 100 to 200
 abbrev pub product-met : Product → Bool
@@ -47,12 +54,11 @@ unfoldable pub depths-met : ℕ → ℕ → List ℕ → Bool
 depths-met top low [] = true
 depths-met top low (z ∷ l) = within low top z && depths-met top (z + 1) l
 
--- the rules of a sheet's values, in order; 11 is of the listed depths and of one given beside the sheet, which is at most V or is not; 17: g < V;
--- 12: h < 10·d_c; 13 is retired (document 02, C-11)
-unfoldable pub value-rules : Bool → List ℕ → List Rule
-value-rules given s =
-    6 unless sides-met (section-of s)
-    ∷ 7 unless product-met (product-sent s)
+-- the rules of a sheet's values behind those of its section, in order; 11 is of the listed depths and of one given beside the sheet, which is at most V
+-- or is not; 17: g < V; 12: h < 10·d_c; 13 is retired (document 02, C-11)
+unfoldable pub later-rules : Bool → List ℕ → List Rule
+later-rules given s =
+    7 unless product-met (product-sent s)
     ∷ 8 unless eccentricities-met (d-c (section-of s)) (eccentricities-of s)
     ∷ 9 unless (flat (bottom-of s) || hopper (d-c (section-of s)) (bottom-of s))
     ∷ 10 unless strakes-met (strakes-of s)
@@ -61,7 +67,14 @@ value-rules given s =
     ∷ 12 unless ltb (h-of s) (10 * d-c (section-of s))
     ∷ []
 
--- 1 to 5 on the records, then 6 to 11, 17 and 12 on the values
+-- a call that only tells a length or a count: 1 to 5 on the records, then 6 and the later ones on the values
+unfoldable pub length-rules : List ℕ → List Rule
+length-rules s = layout-rules s ++ (6 unless sides-met (section-of s) ∷ later-rules true s)
+
+-- a call that works loads out: 20 directly after 6
+unfoldable pub value-rules : Bool → List ℕ → List Rule
+value-rules given s = 6 unless sides-met (section-of s) ∷ 20 unless proportion-met (section-of s) ∷ later-rules given s
+
 unfoldable pub rules-with : Bool → List ℕ → List Rule
 rules-with given s = layout-rules s ++ value-rules given s
 
@@ -72,6 +85,9 @@ sheet-rules s = rules-with true s
 abbrev pub sheet-rules-at : List ℕ → ℕ → List Rule
 sheet-rules-at s z = rules-with (leb z (V-of s)) s
 
--- 0, or the number of the first refusal
+-- 0, or the number of the first refusal: where a length is asked for, and where loads are
+unfoldable pub length-refusal : List ℕ → ℕ
+length-refusal s = first-unmet (length-rules s)
+
 unfoldable pub refusal-of : List ℕ → ℕ
 refusal-of s = first-unmet (sheet-rules s)

@@ -1,4 +1,5 @@
-// The refusals of a data sheet, and the silo that it describes. Document 01, "Who can be refused"; document 02, C-13.
+// The refusals of a data sheet, and the silo that it describes. Document 01, "Who can be refused"; document 02, C-13
+// and C-17.
 ghost use mathlib.Core.Path.{_≡_};
 ghost use Rattle.records.specs.Rules.{first-unmet};
 ghost use Rattle.records.specs.Format.{layout-rules};
@@ -6,8 +7,7 @@ ghost use Rattle.records.specs.program.Reader.{Located};
 ghost use Rattle.description.specs.program.Described.{described-of, Sized};
 ghost use lib.Dec.{leb};
 ghost use Rattle.description.specs.Silo.{V-of};
-ghost use Rattle.sheet.specs.Refusal.{value-rules};
-ghost use Rattle.sheet.specs.program.Judged.{Examined};
+ghost use Rattle.sheet.specs.program.Judged.{asked-values, Examined};
 use description::Bottom;
 use description::Depths;
 use description::Described;
@@ -16,7 +16,13 @@ use description::Wall;
 use janssen::Product;
 use janssen::Section;
 
-pub mod rules; // rules 6 to 12 and 17 on the values
+pub mod rules; // rules 6 to 12, 17 and 20 on the values
+
+// What a call is asked for: a length or a count, or loads.
+pub enum Asked {
+    Length,
+    Loads,
+}
 
 // What a sheet describes, beside its first refusal, or 0.
 pub struct Judged {
@@ -24,14 +30,14 @@ pub struct Judged {
     pub described: Described,
 }
 
-// What a sheet describes that meets rules 1 to 5 and whose records begin at these places, beside the first refusal of rules 6 to 12 and 17; a depth is
-// given, mm.
-fn judge(sheet: &[u8], places: &[usize; 7], depth: u64) -> Judged
+// What a sheet describes that meets rules 1 to 5 and whose records begin at these places, beside the first refusal of the other rules; a depth is given,
+// mm.
+fn judge(asked: Asked, sheet: &[u8], places: &[usize; 7], depth: u64) -> Judged
     requires { ⌜ (first-unmet (layout-rules (now sheet)) ≡ 0) × Located (now sheet) (now places) ⌝ }
-    ensures { λ r. ⌜ (r .refused ≡ first-unmet (value-rules (leb depth (V-of (now (sheet .entry)))) (now (sheet .entry)))) × (r .described ≡ described-of (now (sheet .entry))) × Sized (r .described) ⌝ }
+    ensures { λ r. ⌜ (r .refused ≡ first-unmet (asked-values asked (leb depth (V-of (now (sheet .entry)))) (now (sheet .entry)))) × (r .described ≡ described-of (now (sheet .entry))) × Sized (r .described) ⌝ }
 {
     let described = description::describe(sheet, places);
-    let refused = rules::values_refusal(sheet, described, depth);
+    let refused = rules::values_refusal(asked, sheet, described, depth);
     Judged { refused, described }
 }
 
@@ -62,10 +68,10 @@ fn blank() -> Described
     }
 }
 
-// Any sheet with a depth given beside it, mm, which rule 11 judges with the listed ones: its first refusal, or 0 and what it describes. A call that is given
-// no depth gives 0, which no wall is short of.
-pub fn examine(sheet: &[u8], depth: u64) -> Judged
-    ensures { λ r. ⌜ Examined (now (sheet .entry)) depth r ⌝ }
+// Any sheet with a depth given beside it, mm, which rule 11 judges with the listed ones: its first refusal by what is asked for, or 0 and what it describes.
+// A call that is given no depth gives 0, which no wall is short of.
+pub fn examine(asked: Asked, sheet: &[u8], depth: u64) -> Judged
+    ensures { λ r. ⌜ Examined asked (now (sheet .entry)) depth r ⌝ }
 {
     let mut places = [0usize; 7];
     let refused = records::layout::find_records(sheet, &mut places);
@@ -75,5 +81,5 @@ pub fn examine(sheet: &[u8], depth: u64) -> Judged
             described: blank(),
         };
     }
-    judge(sheet, &places, depth)
+    judge(asked, sheet, &places, depth)
 }

@@ -1,13 +1,15 @@
-// Rules 6 to 12 and 17, each a test; dc is d_c, mm.
+// Rules 6 to 12, 17 and 20, each a test; dc is d_c, mm.
 ghost use mathlib.Core.Path.{_≡_};
 ghost use Prim.Native.Nat.{_*_, _<_, _≤_};
 ghost use lib.Dec.{leb, ltb};
 ghost use lib.ListN.{length, take};
 ghost use Rattle.records.specs.Rules.{within, first-unmet};
 ghost use Rattle.description.specs.Silo.{depths-of};
+ghost use Rattle.janssen.specs.Section.{side-a, side-b};
 ghost use Rattle.description.specs.program.Described.{depths-in, Sized};
-ghost use Rattle.sheet.specs.Refusal.{sides-met, product-met, eccentricities-met, flat, hopper, strakes-met, depths-met};
-ghost use Rattle.sheet.specs.program.Judged.{described-rules};
+ghost use Rattle.sheet.specs.Refusal.{sides-met, proportion-met, product-met, eccentricities-met, flat, hopper, strakes-met, depths-met};
+ghost use Rattle.sheet.specs.program.Judged.{proportion-asked, described-rules};
+use crate::Asked;
 use description::Bottom;
 use description::Depths;
 use description::Described;
@@ -31,6 +33,28 @@ fn sides_met(section: Section) -> bool
     ensures { λ r. ⌜ r ≡ sides-met section ⌝ }
 {
     between(500, 50000, side_a(section)) & between(500, 50000, side_b(section))
+}
+
+// Rule 20: the long side of a rectangle is at most three times the short one.
+fn proportion_met(section: Section) -> bool
+    requires { ⌜ (side-a section < 4294967296) × (side-b section < 4294967296) ⌝ }
+    ensures { λ r. ⌜ r ≡ proportion-met section ⌝ }
+{
+    match section {
+        Section::Circle(_) => true,
+        Section::Rectangle(a, b) => (a <= 3 * b) & (b <= 3 * a),
+    }
+}
+
+// Rule 20 where loads are asked for; a length is told of any section.
+fn proportion_asked(asked: Asked, section: Section) -> bool
+    requires { ⌜ (side-a section < 4294967296) × (side-b section < 4294967296) ⌝ }
+    ensures { λ r. ⌜ r ≡ proportion-asked asked section ⌝ }
+{
+    match asked {
+        Asked::Length => true,
+        Asked::Loads => proportion_met(section),
+    }
 }
 
 // Rule 7.
@@ -126,14 +150,17 @@ fn depth_met(depth: u64, foot: u64) -> bool
     depth <= foot
 }
 
-// The first refusal of rules 6 to 11, 17 and 12 of the silo described and a depth given, or 0. No rule behind it is worked out.
-pub fn values_refusal(sheet: &[u8], described: Described, depth: u64) -> u32
+// The first refusal of rules 6, 20, 7 to 11, 17 and 12 of the silo described and a depth given, or 0. No rule behind it is worked out.
+pub fn values_refusal(asked: Asked, sheet: &[u8], described: Described, depth: u64) -> u32
     requires { ⌜ Sized described × (described .depths ≡ depths-in (now sheet)) ⌝ }
-    ensures { λ r. ⌜ r ≡ first-unmet (described-rules described (depths-of (now (sheet .entry))) depth) ⌝ }
+    ensures { λ r. ⌜ r ≡ first-unmet (described-rules asked described (depths-of (now (sheet .entry))) depth) ⌝ }
 {
     let section = described.section;
     if !sides_met(section) {
         return 6;
+    }
+    if !proportion_asked(asked, section) {
+        return 20;
     }
     let product = described.product;
     if !product_met(product) {

@@ -78,10 +78,10 @@ module _ (d p : ℕ) (hd : d ≤ 50000) (hp : p < 2 ^ 21) where
 module _ (s : List ℕ) (z : ℕ) (h : refusal-of s ≡ 0) (under : z ≤ V-of s) where
   pub patch-fits : patch-at computed s z < 2 ^ 21
   unfolding load-depth
-  patch-fits = let a = accepted s h in patch-small (silo-of s) (silo-fits s a) z (reached s a z under) (omega (arith, V-most s a))
+  patch-fits = let a = accepted s h .measured in patch-small (silo-of s) (silo-fits s a) z (reached s a z under) (omega (arith, V-most s a))
 
   pub width-most : d-c (section-of s) ≤ 50000
-  width-most = let a = accepted s h in d-c-most (section-of s) (product-of s) (in-range s a)
+  width-most = let a = accepted s h .measured in d-c-most (section-of s) (product-of s) (in-range s a)
 
   -- every number of the reply list fits an i32
   pub sizes-fit : (d : ℕ) → size entry (patch-at computed s z) d < 2 ^ 31
@@ -92,4 +92,4 @@ module _ (s : List ℕ) (z : ℕ) (h : refusal-of s ≡ 0) (under : z ≤ V-of s
 
   -- p_p does not fall with depth
   pub patch-rises : (z' : ℕ) → z' ≤ z → patch-at computed s z' ≤ patch-at computed s z
-  patch-rises z' g = let a = accepted s h in rises (silo-of s) (silo-fits s a) z' z (reached s a z under) p-p g
+  patch-rises z' g = let a = accepted s h .measured in rises (silo-of s) (silo-fits s a) z' z (reached s a z under) p-p g

@@ -20,7 +20,8 @@ use Rattle.description.specs.declared.Described.{Described}
 use Rattle.description.specs.Silo.{section-of, V-of}
 use Rattle.description.specs.program.Described.{described-of}
 use Rattle.sheet.specs.Refusal.{sheet-rules-at, refusal-of}
-use Rattle.sheet.proofs.Acceptance.{accepted, accepted-at, given-met, rules-numbered, call-never-13}
+use Rattle.sheet.proofs.Chains.{accepted-at, given-met, rules-numbered, call-never-13}
+use Rattle.sheet.proofs.Acceptance.{accepted}
 use Rattle.loads.specs.declared.Basis.{Basis}
 use Rattle.loads.specs.Load.{number}
 use Rattle.loads.specs.Load.Load.{p-p}
@@ -45,7 +46,7 @@ module _ (s : List ℕ) (d : Described) (z : ℕ) (h : refusal-of s ≡ 0) (e : 
 
   pub patch-asks : Sound b × Reached (b .silo) z
   patch-asks =
-      subst (λ (x : Basis). Sound x × Reached (x .silo) z) (sym of-sheet) (basis-sound s h, reached s (accepted s h) z under)
+      subst (λ (x : Basis). Sound x × Reached (x .silo) z) (sym of-sheet) (basis-sound s h, reached s (accepted s h .measured) z under)
 
   module _ (p : ℕ) (of : p ≡ number computed (b .silo) p-p z) where
     patch-of-sheet : p ≡ patch-at computed s z
@@ -83,7 +84,7 @@ pub shell-claim : (s : List ℕ) (z : ℕ) (list : List ℤ) → refusal-of s �
 unfolding p-ps
 shell-claim s z list h under r =
     let p = patch-at computed s z in
-    let a = accepted s h in
+    let a = accepted s h .measured in
     let kept = holds (silo-of s) (silo-fits s a) p-p z (reached s a z under) in
     record {
       sizes = λ θ g. (size entry p (folded θ), r .pressures θ g, size-holds _ _ p (folded θ) (patch-fits s z h under) (folded-small θ g) kept);

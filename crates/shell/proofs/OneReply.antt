@@ -19,16 +19,16 @@ use Rattle.records.specs.Format.{place}
 use Rattle.records.specs.Rules.{_unless_, first-unmet}
 use Rattle.records.proofs.Chain.{chains-alike}
 use Rattle.description.specs.Silo.{depth-count, V-of}
-use Rattle.sheet.specs.Refusal.{sheet-rules-at, refusal-of}
-use Rattle.sheet.proofs.Acceptance.{accepted-at, rules-numbered}
+use Rattle.sheet.specs.Refusal.{sheet-rules-at}
+use Rattle.sheet.proofs.Chains.{accepted-at, rules-numbered}
 use Rattle.loads.specs.declared.Silo.{Silo}
 use Rattle.loads.specs.Load.{number}
 use Rattle.loads.specs.Load.Load.{p-p}
 use Rattle.answers.specs.Answers.{silo-of, depth, load-in, Filled}
 use Rattle.answers.specs.Factor.{with-factor, Blank}
-use Rattle.answers.proofs.OneSilo.{OneSilo}
-use Rattle.answers.proofs.Headroom.{level, level-refusal-at, level-silo}
-use Rattle.answers.proofs.Factor.{blank-refusal-at, same-silo}
+use Rattle.answers.proofs.OneSilo.{Alike, accepted-alike}
+use Rattle.answers.proofs.Headroom.{level, level-alike}
+use Rattle.answers.proofs.Factor.{blank-alike}
 use Rattle.shell.specs.Shell.{apart, size, Round, RoundOf, is-circle, shell-rules}
 use Rattle.shell.specs.Promise.{ShellPromise}
 use Rattle.shell.proofs.Quadrants.{near}
@@ -65,12 +65,12 @@ round-once d p list list' r r' = ext-getD (pos 0) list list' (r .due ∙ sym (r'
     each : (i : ℕ) → i < length list → getD list i (pos 0) ≡ getD list' i (pos 0)
     each i l = at i l (decLt i 360)
 
-module _ (s s' : List ℕ) (z : ℕ) (refusals : first-unmet (sheet-rules-at s z) ≡ first-unmet (sheet-rules-at s' z)) (one : refusal-of s ≡ 0 → OneSilo s s') where
+module _ (s s' : List ℕ) (z : ℕ) (alike : Alike s s') where
   answer-by : (n : ℕ) → first-unmet (shell-rules s z n) ≡ first-unmet (shell-rules s' z n)
   unfolding shell-rules
   answer-by n =
-      chains-alike (sheet-rules-at s z) (sheet-rules-at s' z) _ _ (rules-numbered (leb z (V-of s)) s) (rules-numbered (leb z (V-of s')) s') refusals
-      (λ h. ap (λ (c : Silo). first-unmet (19 unless is-circle (c .section) ∷ 14 unless eqb n 361 ∷ [])) (one (accepted-at s z h .0) .silos))
+      chains-alike (sheet-rules-at s z) (sheet-rules-at s' z) _ _ (rules-numbered (leb z (V-of s)) s) (rules-numbered (leb z (V-of s')) s') (alike .refusals .loads-at z)
+      (λ h. ap (λ (c : Silo). first-unmet (19 unless is-circle (c .section) ∷ 14 unless eqb n 361 ∷ [])) (accepted-alike s s' alike (accepted-at s z h .0) .silos))
 
   module _ {lent left left' : List ℤ} {r r' : ℕ} (a : ShellPromise computed entry s z lent r left) (b : ShellPromise computed entry s' z lent r' left') where
     answers-same : r ≡ r'
@@ -79,7 +79,7 @@ module _ (s s' : List ℕ) (z : ℕ) (refusals : first-unmet (sheet-rules-at s z
     left-by : Dec (r ≤ 0) → left ≡ left'
     left-by (yes o) =
         let h : r ≡ 0 = omega arith in
-        let c = one (shell-accepted s z (length lent) (sym (a .answer) ∙ h) .0) .silos in
+        let c = accepted-alike s s' alike (shell-accepted s z (length lent) (sym (a .answer) ∙ h) .0) .silos in
         round-once _ _ left left' (a .filled h)
         (subst (λ (c : Silo). Round entry (d-c (c .section)) (number computed c p-p z) left') (sym c) (b .filled (sym answers-same ∙ h)))
     left-by (no o) = a .unchanged (λ e. o (omega (arith, e))) ∙ sym (b .unchanged (λ e. o (omega (arith, e, answers-same))))
@@ -91,9 +91,9 @@ module _ (s : List ℕ) (z : ℕ) (lent left left' : List ℤ) (r r' : ℕ) wher
   -- a sheet of six records, and a headroom of 0 behind it
   pub level-reply : place s 6 ≡ length s → length s + 8 ≤ 1024 → ShellPromise computed entry s z lent r left
       → ShellPromise computed entry (s ++ level) z lent r' left' → (r ≡ r') × (left ≡ left')
-  level-reply six short a b = one-reply s (s ++ level) z (level-refusal-at s six short z) (level-silo s six short) a b
+  level-reply six short a b = one-reply s (s ++ level) z (level-alike s six short) a b
 
   -- a blank factor, and 155 written in
   pub reply-acts-as-155 : Blank s → ShellPromise computed entry s z lent r left → ShellPromise computed entry (with-factor 155 s) z lent r' left'
       → (r ≡ r') × (left ≡ left')
-  reply-acts-as-155 blank a b = one-reply s (with-factor 155 s) z (blank-refusal-at s blank 155 (omega arith) (omega arith) z) (same-silo s blank) a b
+  reply-acts-as-155 blank a b = one-reply s (with-factor 155 s) z (blank-alike s blank) a b

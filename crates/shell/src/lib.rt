@@ -12,6 +12,7 @@ ghost use Rattle.shell.specs.Shell.{is-circle, RoundOf};
 ghost use Rattle.shell.specs.Promise.{ShellPromise};
 use description::Described;
 use janssen::Section;
+use sheet::Asked;
 
 mod round; // the reply list from p_p and d_c
 
@@ -56,7 +57,7 @@ fn fill(sheet: &[u8], described: Described, depth: u64, reply: &mut [i32])
 pub fn shell_patch(sheet: &[u8], depth: u32, reply: &mut [i32]) -> u32
     ensures { λ r. ⌜ ShellPromise computed entry (now (sheet .entry)) depth (now (reply .entry)) r (now (reply .exit)) ⌝ }
 {
-    let judged = sheet::examine(sheet, depth as u64);
+    let judged = sheet::examine(Asked::Loads, sheet, depth as u64);
     if judged.refused != 0 {
         return judged.refused;
     }

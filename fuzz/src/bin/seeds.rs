@@ -1,5 +1,6 @@
 //! seeds FOLDER: writes inputs for the fuzzer to start from, a file each: accepted sheets, damaged ones, silos of each kind of discharge
-//! factors with C0 written and blank, headrooms, the shortest and longest pages, the numbers of a catalogue call, and strake lists.
+//! factors with C0 written and blank, headrooms, long bins, the shortest and longest pages, the numbers of a catalogue call, and strake
+//! lists.
 
 use reference::inputs::{self, Random};
 use reference::limits::{self, of_height, under_headroom};
@@ -10,6 +11,8 @@ const SILOS: u64 = 24;
 const HEIGHTS: [u64; 5] = [200, 5_000, 6_250, 7_499, 7_500];
 /// Under a wall of 7,800: none, some, all but a millimetre; and a silo that without its headroom is too high.
 const HEADROOMS: [(u64, u64); 4] = [(7_800, 0), (7_500, 300), (1, 7_799), (49_999, 5_000)];
+/// Exactly three times as long as wide; a millimetre longer, either side the long one; as long and as narrow as there is.
+const SIDES: [[u64; 2]; 4] = [[5_000, 15_000], [5_000, 15_001], [15_001, 5_000], [500, 50_000]];
 /// Row 8, wall 1 and a buffer of 14 bytes, where `compare_input` reads them.
 const CATALOGUE: [u8; 9] = [8, 0, 0, 0, 1, 0, 0, 0, 14];
 /// Lists of one number each, the second of which governs, and of no number and one.
@@ -25,6 +28,7 @@ fn main() {
         inputs.extend([silo.sheet(), Silo { factor: 0, ..silo }.sheet()]);
     }
     inputs.extend(HEADROOMS.map(|(height, g)| under_headroom(&[5_000], height, (0, 0), g).sheet()));
+    inputs.extend(SIDES.map(|sides| of_height(&sides, 2_000, (0, 0)).sheet()));
     inputs.extend(limits::pages().iter().map(Silo::sheet));
     for _ in 0..SILOS {
         let silo = inputs::silo(&mut random);

@@ -141,7 +141,7 @@ pub const CASES: [Case; 53] = [
         true,
         &[
             ("diameter", "-"),
-            ("sides", "50000 x 500 mm"),
+            ("sides", "1500 x 500 mm"),
             ("strakes", "8 x 600 mm"),
             ("e_i", "125 mm"),
         ],
@@ -151,7 +151,7 @@ pub const CASES: [Case; 53] = [
         false,
         &[
             ("diameter", "-"),
-            ("sides", "500 x 50000 mm"),
+            ("sides", "500 x 1500 mm"),
             ("strakes", "10 x 300 mm"),
             ("hopper height", "900 mm"),
             ("hopper run", "100 mm"),

@@ -31,11 +31,11 @@ const OF_EACH: usize = 16;
 fn chosen() -> Vec<Vec<u8>> {
     let sheets: Vec<Due> = [limits::sheets(), order::sheets()].concat();
     let of_number = |number: u64| {
-        let all: Vec<&Due> = sheets.iter().filter(|(_, due)| *due == number).collect();
+        let all: Vec<&Due> = sheets.iter().filter(|due| due.loads == number).collect();
         let every = all.len().div_ceil(OF_EACH).max(1);
-        all.into_iter().step_by(every).map(|(sheet, _)| sheet.clone()).collect::<Vec<_>>()
+        all.into_iter().step_by(every).map(|due| due.sheet.clone()).collect::<Vec<_>>()
     };
-    (0..=17).flat_map(of_number).collect()
+    (0..=20).flat_map(of_number).collect()
 }
 
 /// The ends of a sheet's length, and words.

@@ -1,9 +1,9 @@
 //! The comparison of the two page calls.
 
-use super::Comparison;
+use super::{beside_length, Comparison};
 use crate::calls::{expect, Difference, Outcome, UNTOUCHED_BYTE};
 use crate::page;
-use crate::sheet::{records, Silo};
+use crate::sheet::{records, told, Silo};
 use std::ops::Range;
 
 /// Buffers that a page is lent with, by their length beside the page's.
@@ -52,8 +52,9 @@ impl Comparison<'_> {
         if self.loads_alone {
             return Ok(());
         }
-        let (told, answer) = (self.calls.page_length(bytes)?, page::length_answer(silo(listed)));
-        expect(told == answer, bytes, || format!("page_length {told}, {answer} due"))?;
+        let (length, due) = (self.calls.page_length(bytes)?, told(bytes, page::length));
+        expect(length == due, bytes, || format!("page_length {length}, {due} due"))?;
+        listed.map_or_else(|refusal| beside_length(bytes, refusal, length), |_| Ok(()))?;
         let due = records(bytes).map_or(SHORTEST, |silo| page::length(&silo));
         let text = listed.map(|(silo, list)| page::text(silo, list)).unwrap_or_default();
         let fits = listed.is_err() || text.len() == due;

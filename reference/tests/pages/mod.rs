@@ -4,7 +4,7 @@ use crate::{answers_length, list_of, without_headroom, Length};
 use reference::calls::{Library, UNTOUCHED_BYTE};
 use reference::linked::Linked;
 use reference::page::{self, text};
-use reference::sheet::{parse, records, Silo};
+use reference::sheet::{measure, parse, records, told, Silo};
 use std::iter::repeat;
 use std::ops::Range;
 
@@ -23,7 +23,7 @@ impl Pages {
     pub fn page(&self, sheet: &[u8], buffer: &mut [u8]) -> u32 {
         match self {
             Pages::Calls(page, _) => page(sheet, buffer),
-            Pages::Laid(layout) => match laid_out(sheet, *layout) {
+            Pages::Laid(layout) => match laid_out(parse(sheet), *layout) {
                 Err(refusal) => refusal as u32,
                 Ok(text) if text.len() > buffer.len() => 18,
                 Ok(text) => {
@@ -37,7 +37,7 @@ impl Pages {
     pub fn length(&self, sheet: &[u8]) -> u64 {
         match self {
             Pages::Calls(_, length) => length(sheet),
-            Pages::Laid(layout) => laid_out(sheet, *layout)
+            Pages::Laid(layout) => laid_out(measure(sheet), *layout)
                 .map_or_else(|refusal| refusal, |text| (1 << 32) + text.len() as u64),
         }
     }
@@ -59,8 +59,9 @@ pub fn page_length(sheet: &[u8]) -> u64 {
     unsafe { Linked.page_length(sheet) }
 }
 
-fn laid_out(sheet: &[u8], layout: Layout) -> Result<String, u64> {
-    let silo = parse(sheet)?;
+/// The page, of zeros where a silo is measured and not calculated.
+fn laid_out(judged: Result<Silo, u64>, layout: Layout) -> Result<String, u64> {
+    let silo = judged?;
     let list: Vec<u64> = list_of(&silo).into_iter().map(u64::from).collect();
     Ok(layout(&silo, &list))
 }
@@ -250,6 +251,10 @@ pub const CALLS: &[(&str, Page)] = &[
         let length = buffer.len() % (1 << 16);
         page(sheet, &mut buffer[..length])
     }),
+    ("18 before 20", |sheet, buffer| match (page(sheet, buffer), measure(sheet)) {
+        (20, Ok(silo)) if page::length(&silo) > buffer.len() => 18,
+        (answer, _) => answer,
+    }),
     ("a buffer a byte short accepted", |sheet, buffer| match page(sheet, buffer) {
         18 => {
             let mut longer = [&buffer[..], &[0]].concat();
@@ -268,10 +273,16 @@ pub const CALLS: &[(&str, Page)] = &[
     }),
     ("a short buffer cleared", |sheet, buffer| refused(sheet, buffer, 18..19, |_| String::new())),
     ("a short buffer filled", |sheet, buffer| {
-        refused(sheet, buffer, 18..19, |_| laid_out(sheet, text).unwrap_or_default())
+        refused(sheet, buffer, 18..19, |_| laid_out(parse(sheet), text).unwrap_or_default())
     }),
     ("the refusal in the buffer", |sheet, buffer| {
         refused(sheet, buffer, 1..18, |answer| format!("REFUSED {answer}\n"))
+    }),
+    ("a long bin's page, with 20", |sheet, buffer| {
+        refused(sheet, buffer, 20..21, |_| laid_out(measure(sheet), text).unwrap_or_default())
+    }),
+    ("20 in the buffer", |sheet, buffer| {
+        refused(sheet, buffer, 20..21, |answer| format!("REFUSED {answer}\n"))
     }),
     ("a page without headroom", |sheet, buffer| {
         instead(sheet, buffer, |silo| match without_headroom(&silo) {
@@ -287,22 +298,17 @@ pub const CALLS: &[(&str, Page)] = &[
     }),
 ];
 
-/// Another length of an accepted silo's page.
-fn lengths(sheet: &[u8], length: fn(&Silo) -> usize) -> u64 {
-    parse(sheet).map_or_else(|refusal| refusal, |silo| (1 << 32) + length(&silo) as u64)
-}
-
 pub const LENGTHS: &[(&str, Length)] = &[
     ("a page's length without its mark", |sheet| page_length(sheet) % (1 << 32)),
     ("a mark on a page's refusals too", |sheet| (1 << 32) | page_length(sheet)),
-    ("a byte too many", |sheet| lengths(sheet, |silo| page::length(silo) + 1)),
+    ("a byte too many", |sheet| told(sheet, |silo| page::length(silo) + 1)),
     ("a page's length in numbers", answers_length),
     ("a page without its line feeds", |sheet| {
-        lengths(sheet, |silo| 72 * (1 + silo.depths.len()) + 9 * (10 + silo.strakes.len()))
+        told(sheet, |silo| 72 * (1 + silo.depths.len()) + 9 * (10 + silo.strakes.len()))
     }),
-    ("a page without its heading", |sheet| lengths(sheet, |silo| page::length(silo) - 73)),
-    ("the longest page for all", |sheet| lengths(sheet, |_| 73 * 201 + 10 * 34)),
-    ("no 17 for a page", |sheet| match (parse(sheet), records(sheet)) {
+    ("a page without its heading", |sheet| told(sheet, |silo| page::length(silo) - 73)),
+    ("the longest page for all", |sheet| told(sheet, |_| 73 * 201 + 10 * 34)),
+    ("no 17 for a page", |sheet| match (measure(sheet), records(sheet)) {
         (Err(17), Ok(silo)) => (1 << 32) + page::length(&silo) as u64,
         _ => page_length(sheet),
     }),

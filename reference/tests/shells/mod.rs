@@ -361,6 +361,14 @@ pub const CALLS: &[(&str, Shell)] = &[
             ((6..11).contains(&answer) && call.is_rectangle()).then_some(19)
         })
     }),
+    ("14 before 20", |sheet, depth, list| {
+        answered(sheet, depth, list, |answer, call| {
+            (answer == 20 && call.length != LENGTH).then_some(14)
+        })
+    }),
+    ("the given depth judged before 20", |sheet, depth, list| {
+        answered(sheet, depth, list, |answer, call| (answer == 20 && call.is_over()).then_some(11))
+    }),
     ("the given depth judged after 17 and 12", |sheet, depth, list| {
         answered(sheet, depth, list, |answer, call| match parse(call.sheet) {
             Err(refusal @ (17 | 12)) if answer == 11 => Some(refusal as u32),
@@ -464,6 +472,7 @@ pub const CALLS: &[(&str, Shell)] = &[
     ("the list cleared at 11", |sheet, depth, list| clearing(sheet, depth, list, &[11])),
     ("the list cleared at 19", |sheet, depth, list| clearing(sheet, depth, list, &[19])),
     ("the list cleared at 14", |sheet, depth, list| clearing(sheet, depth, list, &[14])),
+    ("the list cleared at 20", |sheet, depth, list| clearing(sheet, depth, list, &[20])),
 ];
 
 /// What the call writes to besides: the sheet from its first byte on, or the list.

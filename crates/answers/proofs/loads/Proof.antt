@@ -2,7 +2,7 @@
 use mathlib.Core.Path.{_≡_, sym, _∙_}
 use borrow.Author.Needs.{needs}
 use Rattle.sheet.specs.Refusal.{refusal-of}
-use Rattle.sheet.proofs.Acceptance.{examined-alone, examined-met}
+use Rattle.sheet.proofs.Chains.{loads-examined, examined-met}
 use Rattle.description.specs.program.Described.{described-of}
 use Rattle.answers.specs.Length.{length-due}
 use Rattle.answers.proofs.Call.{refused, unfit, filled}
@@ -39,7 +39,7 @@ returns : tie.Need-returns
 returns c =
     let examined = c .before .before .examine in
     let a = c .before .before .before .before .before .args in
-    refused (a .sheet .now) (a .answers .now) (examined .result .refused) (examined-alone (a .sheet .now) (examined .result) (examined .ensures)) (c .if1 .taken)
+    refused (a .sheet .now) (a .answers .now) (examined .result .refused) (loads-examined (a .sheet .now) (examined .result) (examined .ensures)) (c .if1 .taken)
 
 length-due-requires : tie.Need-length-due-requires
 length-due-requires c κs = let sized = c .before .before .before .examine .ensures .sized in (sized .depths-few, sized .strakes-few)

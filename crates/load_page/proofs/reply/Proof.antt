@@ -5,7 +5,7 @@ use native.Mathlib.Omega.{arith}
 use lib.ListN.{length, drop}
 use lib.Seq.{sets-eq}
 use Rattle.janssen.specs.program.Pressure.{computed}
-use Rattle.sheet.proofs.Acceptance.{refusal-small}
+use Rattle.sheet.proofs.Chains.{refusal-small}
 use Rattle.page.specs.Page.{page, page-due}
 use Rattle.load_page.specs.Reply.{refused-text}
 use Rattle.load_page.proofs.Texts.{sheet-answer, refused-is, page-printed, refused-length, AtStart, at-start}

@@ -3,7 +3,7 @@ use mathlib.Core.Path.{_≡_}
 use borrow.Author.Needs.{needs}
 use native.Mathlib.Omega.{arith}
 use Rattle.sheet.specs.Refusal.{refusal-of}
-use Rattle.sheet.proofs.Acceptance.{examined-alone, examined-met}
+use Rattle.sheet.proofs.Chains.{loads-examined, examined-met}
 use Rattle.description.specs.program.Described.{described-of}
 use Rattle.page.specs.Page.{page-due}
 use Rattle.page.proofs.Call.{described-size, refused, short, written}
@@ -39,7 +39,7 @@ returns : tie.Need-returns
 returns c =
     let examined = c .before .before .examine in
     let a = c .before .before .before .before .before .args in
-    refused (a .sheet .now) (a .out .now) (examined .result .refused) (examined-alone (a .sheet .now) (examined .result) (examined .ensures)) (c .if1 .taken)
+    refused (a .sheet .now) (a .out .now) (examined .result .refused) (loads-examined (a .sheet .now) (examined .result) (examined .ensures)) (c .if1 .taken)
 
 page-due-requires : tie.Need-page-due-requires
 page-due-requires c κs = let sized = c .before .before .before .examine .ensures .sized in (sized .depths-few, sized .strakes-few)

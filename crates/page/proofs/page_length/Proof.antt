@@ -1,7 +1,7 @@
 -- The sheet's refusal, and the length by the counts of the silo described where there is none.
 use mathlib.Core.Path.{_∙_}
 use denote.Ref.{now}
-use Rattle.sheet.proofs.Acceptance.{examined-alone}
+use Rattle.sheet.proofs.Chains.{length-examined}
 use Rattle.answers.proofs.LengthLaws.{told-same}
 use Rattle.page.proofs.Call.{described-size}
 use borrow.Author.Needs.{needs}
@@ -22,7 +22,7 @@ returns c =
     let counted = c .before .page-due in
     let judged = c .before .before .before .examine in
     let s = now (c .before .before .before .before .before .args .sheet) in
-    c .told .ensures ∙ told-same (examined-alone s (judged .result) (judged .ensures)) (λ h. described-size s (judged .result .described) (counted .result) (judged .ensures .silo h) (counted .ensures .0))
+    c .told .ensures ∙ told-same (length-examined s (judged .result) (judged .ensures)) (λ h. described-size s (judged .result .described) (counted .result) (judged .ensures .silo h) (counted .ensures .0))
 
 pub page-length-spec : {M : Type 1} → statement M
 page-length-spec = tie.close (tie.spec examine-requires page-due-requires told-requires returns)

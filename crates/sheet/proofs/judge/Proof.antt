@@ -25,8 +25,8 @@ returns c =
     let start = c .before .before .before in
     let s = start .args .sheet .now in (
       c .values-refusal .ensures
-          ∙ ap (λ (d : Described). first-unmet (described-rules d (depths-of s) (start .args .depth))) described
-          ∙ ap first-unmet (described-judged s (start .args .depth) (layout-of s (start .pre .0) .strakes-few)),
+          ∙ ap (λ (d : Described). first-unmet (described-rules (start .args .asked) d (depths-of s) (start .args .depth))) described
+          ∙ ap first-unmet (described-judged (start .args .asked) s (start .args .depth) (layout-of s (start .pre .0) .strakes-few)),
       described,
       c .before .describe .ensures .1,
     )

@@ -8,7 +8,7 @@ use Rattle.description.specs.declared.Described.{Described}
 use Rattle.description.specs.Silo.{section-of}
 use Rattle.description.specs.program.Described.{described-of}
 use Rattle.sheet.specs.Refusal.{sheet-rules-at}
-use Rattle.sheet.proofs.Acceptance.{accepted-at}
+use Rattle.sheet.proofs.Chains.{accepted-at, examined-at}
 use Rattle.shell.specs.Shell.{is-circle}
 use Rattle.shell.proofs.Call.{refused, rectangle, other-length, filled}
 use Rattle.shell.proofs.shell_patch.Statement.{statement}
@@ -31,7 +31,7 @@ module _ (x : lts.After-is-circle calls reads.Pre reads.Post) where
   start = judged .before .before
 
   met : first-unmet (sheet-rules-at (start .args .sheet .now) (start .args .depth)) ≡ 0
-  met = sym (judged .examine .ensures .refusal) ∙ x .before .before .if1 .left
+  met = sym (examined-at (start .args .sheet .now) (judged .examine .result) (start .args .depth) (judged .examine .ensures)) ∙ x .before .before .if1 .left
 
   described : judged .examine .result .described ≡ described-of (start .args .sheet .now)
   described = judged .examine .ensures .silo (x .before .before .if1 .left)
@@ -46,7 +46,8 @@ returns : tie.Need-returns
 returns c =
     let examined = c .before .before .examine in
     let a = c .before .before .before .before .args in
-    refused (a .sheet .now) (a .depth) (a .reply .now) (examined .result .refused) (examined .ensures .refusal) (c .if1 .taken)
+    let refusal = examined-at (a .sheet .now) (examined .result) (a .depth) (examined .ensures) in
+    refused (a .sheet .now) (a .depth) (a .reply .now) (examined .result .refused) refusal (c .if1 .taken)
 
 is-circle-requires : tie.Need-is-circle-requires
 is-circle-requires c κs = search needs

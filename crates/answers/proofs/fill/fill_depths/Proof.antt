@@ -57,7 +57,7 @@ depth-numbers-requires c κs =
     let i : l .i < depth-count s = omega (arith, c .before .loop-test .taken, l .inv .1) in (
       pre .0,
       rw (pre .3) (basis-sound s (pre .1)),
-      rw (pre .3, c .four-bytes .ensures .0, depth-read s (l .i) (l .at) i (l .inv .3)) (depth-reached s (accepted s (pre .1)) (l .i) i),
+      rw (pre .3, c .four-bytes .ensures .0, depth-read s (l .i) (l .at) i (l .inv .3)) (depth-reached s (accepted s (pre .1) .measured) (l .i) i),
       c .four-bytes .ensures .1,
     )
 
