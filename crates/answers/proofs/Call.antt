@@ -12,14 +12,14 @@ use lib.ListN.{length}
 use Rattle.janssen.specs.Numbers.{FillingNumbers}
 use Rattle.janssen.specs.program.Pressure.{computed}
 use Rattle.records.specs.Rules.{_unless_, first-unmet}
-use Rattle.sheet.specs.Refusal.{length-refusal, refusal-of}
-use Rattle.sheet.proofs.Chains.{sheet-first, sheet-passed, sheet-met, call-never-13, call-or-20, call-measured-20}
+use Rattle.sheet.specs.Refusal.{refusal-of}
+use Rattle.sheet.proofs.Chains.{sheet-first, sheet-passed, sheet-met, call-never-13}
 use Rattle.answers.specs.Length.{length-due, answers-length}
 use Rattle.answers.specs.declared.length.Length.the-variants.{Due, Refused}
 use Rattle.answers.specs.Answers.{Filled, loads-rules}
 use Rattle.answers.specs.Promise.{Promise}
 use Rattle.answers.specs.program.Fill.{answers}
-use Rattle.answers.proofs.LengthLaws.{due-told, refused-told}
+use Rattle.answers.proofs.LengthLaws.{beside-refused, beside-due}
 use Rattle.answers.proofs.Places.{answers-filled}
 use Rattle.answers.proofs.Demand.{claim}
 
@@ -45,15 +45,11 @@ module _ (s : List ℕ) (n : ℕ) where
 module _ {f : FillingNumbers} {s lent left : List ℕ} {r : ℕ} (p : Promise f s lent r left) where
   pub refused-or-20 : (k : ℕ) → answers-length s ≡ Refused k → (r ≡ k) ⊎ (r ≡ 20)
   unfolding loads-rules
-  refused-or-20 k e =
-      let told = refused-told (length-refusal s) (length-due s) k e in
-      rw (p .answer, sym (told .1)) (call-or-20 s _ (told .0))
+  refused-or-20 = beside-refused s _ (length-due s) (p .answer)
 
   pub measured-refused : answers-length s ≡ Due (length lent) → (r ≡ 0 → ⊥) → r ≡ 20
   unfolding loads-rules first-unmet
-  measured-refused e n =
-      let told = due-told (length-refusal s) (length-due s) (length lent) e in
-      p .answer ∙ call-measured-20 s _ (told .0) (simp (eq-eqb (length lent) (length-due s) (sym (told .1)))) (λ o. n (p .answer ∙ o))
+  measured-refused e = beside-due s _ (length-due s) (p .answer) (length lent) e (λ o. simp (eq-eqb (length lent) (length-due s) (sym o)))
 
 module _ (s lent : List ℕ) where
   -- any refusal leaves the list as it was

@@ -1,14 +1,16 @@
 -- The length due by the silo described, and the answers of the length call: a refused sheet's refusal, an accepted sheet's length.
 use Prim.Native.Nat.{ℕ, suc, _≤_, _<_}
-use mathlib.Core.List.{List}
+use mathlib.Core.List.{List, _++_}
+use mathlib.Core.Logic.{_⊎_}
 use mathlib.Core.Path.{_≡_, _∙_, ap, sym}
 use native.Mathlib.Decide.{decLe}
 use native.Mathlib.Omega.{arith}
 use borrow.Author.Tests.{eq-eqb, ne-eqb}
 use Rattle.description.specs.declared.Described.{Described}
 use Rattle.description.specs.program.Described.{wall-of, described-of}
-use Rattle.sheet.specs.Refusal.{length-refusal}
-use Rattle.sheet.proofs.Chains.{never-13, never-20}
+use Rattle.records.specs.Rules.{Rule, first-unmet}
+use Rattle.sheet.specs.Refusal.{sheet-rules, length-refusal}
+use Rattle.sheet.proofs.Chains.{never-13, never-20, call-or-20, call-measured-20}
 use Rattle.answers.specs.Place.{strake-place}
 use Rattle.answers.specs.Length.{length-due, told, length-number}
 use Rattle.answers.specs.declared.length.Length.{Length}
@@ -46,7 +48,7 @@ refusal-in (Due n) = 0
 refusal-in (Refused r) = r
 
 module _ (r n k : ℕ) where
-  pub due-told : told r n ≡ Due k → (r ≡ 0) × (n ≡ k)
+  due-told : told r n ≡ Due k → (r ≡ 0) × (n ≡ k)
   due-told e = at (decLe r 0)
     where
       at : Dec (r ≤ 0) → (r ≡ 0) × (n ≡ k)
@@ -58,7 +60,7 @@ module _ (r n k : ℕ) where
           let none : 0 ≡ suc k = ap length-in (sym (told-refused r n (λ o. omega arith)) ∙ e) in
           absurd (omega (arith, none))
 
-  pub refused-told : told r n ≡ Refused k → (r ≡ 0 → ⊥) × (r ≡ k)
+  refused-told : told r n ≡ Refused k → (r ≡ 0 → ⊥) × (r ≡ k)
   refused-told e = at (decLe r 0)
     where
       at : Dec (r ≤ 0) → (r ≡ 0 → ⊥) × (r ≡ k)
@@ -68,6 +70,19 @@ module _ (r n k : ℕ) where
       at (no z) =
           let refused : r ≡ 0 → ⊥ = λ o. omega arith in
           (refused, ap refusal-in (sym (told-refused r n refused) ∙ e))
+
+-- a call that works loads out, with rules of its own, beside one that tells the length n (document 02, C-17): the refusal that this answers, or 20; and 20
+-- where it tells a length with which those rules are met
+module _ (s : List ℕ) (own : List Rule) (n : ℕ) {r : ℕ} (answer : r ≡ first-unmet (sheet-rules s ++ own)) where
+  pub beside-refused : (k : ℕ) → told (length-refusal s) n ≡ Refused k → (r ≡ k) ⊎ (r ≡ 20)
+  beside-refused k e =
+      let known = refused-told (length-refusal s) n k e in
+      rw (answer, sym (known .1)) (call-or-20 s own (known .0))
+
+  pub beside-due : (k : ℕ) → told (length-refusal s) n ≡ Due k → (n ≡ k → first-unmet own ≡ 0) → (r ≡ 0 → ⊥) → r ≡ 20
+  beside-due k e met refused =
+      let known = due-told (length-refusal s) n k e in
+      answer ∙ call-measured-20 s own (known .0) (met (known .1)) (λ o. refused (answer ∙ o))
 
 -- the number of an answer is that of its refusal, or more than any
 told-number : (r n k : ℕ) → k < 4294967296 → length-number (told r n) ≡ k → r ≡ k

@@ -16,11 +16,11 @@ use Rattle.janssen.specs.program.Pressure.{computed}
 use Rattle.description.specs.Silo.{depth-count}
 use Rattle.description.specs.declared.Described.{Described}
 use Rattle.description.specs.program.Described.{wall-of, described-of}
-use Rattle.sheet.specs.Refusal.{length-refusal, refusal-of}
-use Rattle.sheet.proofs.Chains.{sheet-first, sheet-passed, call-never-13, call-or-20, call-measured-20}
+use Rattle.sheet.specs.Refusal.{refusal-of}
+use Rattle.sheet.proofs.Chains.{sheet-first, sheet-passed, call-never-13}
 use Rattle.answers.specs.declared.length.Length.the-variants.{Due, Refused}
 use Rattle.answers.specs.program.Fill.{answers}
-use Rattle.answers.proofs.LengthLaws.{due-told, refused-told}
+use Rattle.answers.proofs.LengthLaws.{beside-refused, beside-due}
 use Rattle.answers.proofs.Places.{answers-filled}
 use Rattle.answers.proofs.Demand.{claim}
 use Rattle.page.specs.Page.{page, page-size, page-due, page-length, page-rules}
@@ -53,15 +53,11 @@ module _ (s : List ℕ) (n : ℕ) where
 module _ {f : FillingNumbers} {s lent left : List ℕ} {r : ℕ} (p : PagePromise f s lent r left) where
   pub refused-or-20 : (k : ℕ) → page-length s ≡ Refused k → (r ≡ k) ⊎ (r ≡ 20)
   unfolding page-rules
-  refused-or-20 k e =
-      let told = refused-told (length-refusal s) (page-due s) k e in
-      rw (p .answer, sym (told .1)) (call-or-20 s _ (told .0))
+  refused-or-20 = beside-refused s _ (page-due s) (p .answer)
 
   pub measured-refused : (n : ℕ) → page-length s ≡ Due n → n ≤ length lent → (r ≡ 0 → ⊥) → r ≡ 20
   unfolding page-rules first-unmet
-  measured-refused n e room refused =
-      let told = due-told (length-refusal s) (page-due s) n e in
-      p .answer ∙ call-measured-20 s _ (told .0) (simp (le-leb (page-due s) (length lent) (omega (arith, told .1, room)))) (λ o. refused (p .answer ∙ o))
+  measured-refused n e room = beside-due s _ (page-due s) (p .answer) n e (λ o. simp (le-leb (page-due s) (length lent) (omega (arith, o, room))))
 
 -- an accepted sheet's page is what the program writes, of the length told
 module _ (s : List ℕ) (h : refusal-of s ≡ 0) where
