@@ -357,14 +357,13 @@ pub fn given_depth(depth: u32, silo: &Description) -> Option<String> {
     below_foot(depth, &Sizes::sound(silo))
 }
 
-/// A rectangle, where a circle is due.
+/// A rectangle, where a circle is due; its loads are named where it has any, which one that is too long has not.
 pub fn rectangle(silo: &Description) -> Option<Place> {
     let Section::Rectangle(..) = silo.section else { return None };
     let squares = format!("two opposite squares of s = {} mm", tenths(silo.section.patch_side()));
-    let why = format!(
-        "a circle is due; silo loads has a rectangle's p_p, which acts on {squares} (5.10)"
-    );
-    Some(Place { field: Field::Line(Name::Sides), why })
+    let loads = format!("; silo loads has a rectangle's p_p, which acts on {squares} (5.10)");
+    let loads = if unequal(silo.section).is_some() { String::new() } else { loads };
+    Some(Place { field: Field::Line(Name::Sides), why: format!("a circle is due{loads}") })
 }
 
 /// A headroom that leaves no grain at the wall: g >= V.

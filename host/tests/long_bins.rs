@@ -147,7 +147,7 @@ fn every_output_of_loads_is_refused() {
         ] {
             let words = said(&patch, 1);
             assert!(
-                words.starts_with(refused) && words.contains("sides: a circle is due; "),
+                words.starts_with(refused) && words.ends_with("sides: a circle is due\n"),
                 "{words}"
             );
         }
