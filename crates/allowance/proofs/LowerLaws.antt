@@ -10,8 +10,7 @@ use Rattle.fraction.specs.Fraction.{Fraction, whole, _⊕_, _⊗_, _⪯_, _≺_
 use Rattle.fraction.proofs.Order.{pos-left, pos-right, ⪯-trans}
 use Rattle.exponential.specs.Series.{S, term, factorial}
 use Rattle.janssen.specs.declared.Section.{Section}
-use Rattle.janssen.specs.declared.Product.{Product}
-use Rattle.janssen.specs.Filling.{Kind, factors, q, P}
+use Rattle.janssen.specs.Filling.{Grain, Kind, factors, q, P}
 use Rattle.janssen.specs.Band.{FillingBand}
 use Rattle.allowance.specs.Allowance.{Lower, Allowance}
 
@@ -109,7 +108,7 @@ allowed {P} {q} {p} F fill above near = record {
 
 -- from the band of a filling pressure
 pub filled-by-band :
-    {k : Kind} {s : Section} {p : Product} {z x : ℕ} → FillingBand (whole 2) k s p z x → Filled (P k s p) (q (factors k) s p z) x
+    {k : Kind} {s : Section} {p : Grain} {z x : ℕ} → FillingBand (whole 2) k s p z x → Filled (P k s p) (q (factors k) s p z) x
 filled-by-band {k} {s} {p} {z} {x} band = record { over = λ v low. lower-below x (band .above) low; near = at (decLt 0 z) }
   where
     proper : 0 < P k s p .bottom

@@ -9,14 +9,17 @@ use native.Mathlib.Omega.{arith}
 use borrow.Author.Tests.{eq-eqb, ne-eqb}
 use lib.Dec.{eqb}
 use lib.ListN.{length}
+use Rattle.exponential.specs.program.Table.{table}
+use Rattle.exponential.proofs.TableLaws.{tabulated}
 use Rattle.janssen.specs.Numbers.{FillingNumbers}
-use Rattle.janssen.specs.program.Pressure.{computed}
+use Rattle.janssen.specs.program.Pressure.{computed-by, computed}
 use Rattle.records.specs.Rules.{_unless_, first-unmet}
 use Rattle.sheet.specs.Refusal.{refusal-of}
 use Rattle.sheet.proofs.Chains.{sheet-first, sheet-passed, sheet-met, call-never-13}
 use Rattle.answers.specs.Length.{length-due, answers-length}
 use Rattle.answers.specs.declared.length.Length.the-variants.{Due, Refused}
 use Rattle.answers.specs.Answers.{Filled, loads-rules}
+use Rattle.answers.specs.Claim.{LeftFor}
 use Rattle.answers.specs.Promise.{Promise}
 use Rattle.answers.specs.program.Fill.{answers}
 use Rattle.answers.proofs.LengthLaws.{beside-refused, beside-due}
@@ -41,8 +44,12 @@ module _ (s : List ℕ) (n : ℕ) where
   unfolding loads-rules
   not-refused h = sheet-met s _ h
 
+-- what the call leaves where it answers 0
+pub left-for : {f : List ℕ → FillingNumbers} {t s lent left : List ℕ} {r : ℕ} → Promise f t s lent r left → r ≡ 0 → LeftFor (f t) s left
+left-for {s = s} {lent = lent} p e = record { accepted = not-refused s (length lent) (sym (p .answer) ∙ e); filled = p .filled e }
+
 -- beside the length call (document 02, C-17): the refusal that it answers, or 20; and 20 where it tells a length, which the list has
-module _ {f : FillingNumbers} {s lent left : List ℕ} {r : ℕ} (p : Promise f s lent r left) where
+module _ {f : List ℕ → FillingNumbers} {t s lent left : List ℕ} {r : ℕ} (p : Promise f t s lent r left) where
   pub refused-or-20 : (k : ℕ) → answers-length s ≡ Refused k → (r ≡ k) ⊎ (r ≡ 20)
   unfolding loads-rules
   refused-or-20 = beside-refused s _ (length-due s) (p .answer)
@@ -53,17 +60,17 @@ module _ {f : FillingNumbers} {s lent left : List ℕ} {r : ℕ} (p : Promise f 
 
 module _ (s lent : List ℕ) where
   -- any refusal leaves the list as it was
-  refused-with : (r : ℕ) → r ≡ first-unmet (loads-rules s (length lent)) → (r ≡ 0 → ⊥) → Promise computed s lent r lent
-  refused-with r e n = record { answer = e; unchanged = λ _. refl; filled = λ o. absurd (n o); demand = λ o. absurd (n o) }
+  refused-with : (r : ℕ) → r ≡ first-unmet (loads-rules s (length lent)) → (r ≡ 0 → ⊥) → Promise computed-by table s lent r lent
+  refused-with r e n = record { answer = e; unchanged = λ _. refl; filled = λ o. absurd (n o); table = tabulated; demand = λ o. absurd (n o) }
 
-  pub refused : (r : ℕ) → r ≡ refusal-of s → (r ≡ 0 → ⊥) → Promise computed s lent r lent
+  pub refused : (r : ℕ) → r ≡ refusal-of s → (r ≡ 0 → ⊥) → Promise computed-by table s lent r lent
   refused r e n = refused-with r (e ∙ sym (refused-answer s (length lent) (λ o. n (e ∙ o)))) n
 
-  pub unfit : refusal-of s ≡ 0 → (length lent ≡ length-due s → ⊥) → Promise computed s lent 14 lent
+  pub unfit : refusal-of s ≡ 0 → (length lent ≡ length-due s → ⊥) → Promise computed-by table s lent 14 lent
   unfolding first-unmet
   unfit h n = refused-with 14 (sym (last-rule s (length lent) h ∙ simp (ne-eqb (length lent) (length-due s) n))) (λ o. omega arith)
 
-  pub filled : (list : List ℕ) → refusal-of s ≡ 0 → length lent ≡ length-due s → list ≡ answers s → Promise computed s lent 0 list
+  pub filled : (list : List ℕ) → refusal-of s ≡ 0 → length lent ≡ length-due s → list ≡ answers s → Promise computed-by table s lent 0 list
   unfolding first-unmet
   filled list h n e =
       let fill : Filled computed s list = subst (Filled computed s) (sym e) (answers-filled s) in
@@ -71,5 +78,6 @@ module _ (s lent : List ℕ) where
         answer = sym (last-rule s (length lent) h ∙ simp (eq-eqb (length lent) (length-due s) n));
         unchanged = λ o. absurd (o refl);
         filled = λ _. fill;
+        table = tabulated;
         demand = λ _. claim s list h fill;
       }

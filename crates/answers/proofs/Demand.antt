@@ -10,6 +10,7 @@ use mathlib.Core.Logic.{⊎-elim}
 use native.Mathlib.Nat.{add-zero, add-suc, le-antisymm}
 use native.Mathlib.Omega.{arith}
 use lib.ListN.{length}
+use Rattle.janssen.specs.Filling.{grain-of}
 use Rattle.janssen.specs.program.Pressure.{computed}
 use Rattle.records.specs.Format.{place, payload-length}
 use Rattle.records.proofs.Records.{six-least}
@@ -57,7 +58,7 @@ module _ (s : List ℕ) (a : Measured s) where
   -- H and r are at most 25,000
   bottom-fits : (bottom-of s .height ≤ 25000) × (bottom-of s .run ≤ 25000)
   bottom-fits =
-      ⊎-elim (λ o. (omega (arith, o .0), omega (arith, o .1))) (λ x. (x .height-most, omega (arith, x .run-narrow, d-c-most (section-of s) (product-of s) (in-range s a))))
+      ⊎-elim (λ o. (omega (arith, o .0), omega (arith, o .1))) (λ x. (x .height-most, omega (arith, x .run-narrow, d-c-most (section-of s) (grain-of (product-of s)) (in-range s a))))
       (a .values .bottom-shape)
 
   pub silo-fits : Fits (silo-of s)

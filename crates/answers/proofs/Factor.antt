@@ -13,8 +13,6 @@ use borrow.Author.Tests.{le-leb, eq-eqb, ne-eqb}
 use lib.ListN.{length, getD, set, length-set}
 use lib.Seq.{getD-set-same, getD-set-other}
 use Rattle.janssen.specs.Numbers.{FillingNumbers}
-use Rattle.janssen.specs.program.Pressure.{computed}
-use Rattle.janssen.proofs.WithFactor.{product-with}
 use Rattle.records.specs.Rules.{first-unmet}
 use Rattle.records.specs.Format.{u16, u32, place, payload, payload-length, layout-rules}
 use Rattle.records.proofs.Records.{place-next, place-most}
@@ -31,7 +29,7 @@ use Rattle.loads.specs.declared.Silo.{Silo}
 use Rattle.loads.specs.Load.{Load}
 use Rattle.loads.specs.Load.{number, bottom-numbers}
 use Rattle.loads.specs.Load.Load.{p-he, p-we, p-p}
-use Rattle.loads.proofs.WithFactor.{silo-with, number-with, p-we-with, bottom-with, p-he-less, p-p-less}
+use Rattle.loads.proofs.WithFactor.{product-with, silo-with, number-with, p-we-with, bottom-with, p-he-less, p-p-less}
 use Rattle.answers.specs.Length.{answers-length}
 use Rattle.answers.specs.Answers.{silo-of, depth, load-in}
 use Rattle.answers.specs.Claim.{LeftFor}
@@ -159,13 +157,13 @@ module _ (s : List ℕ) (b : Blank s) where
   pub blank-length : answers-length s ≡ answers-length written
   blank-length = one-length s written blank-alike
 
-  pub acts-as-155 : (f : FillingNumbers) (lent left left' : List ℕ) (r r' : ℕ) → Promise f s lent r left → Promise f written lent r' left'
+  pub acts-as-155 : (f : List ℕ → FillingNumbers) (t lent left left' : List ℕ) (r r' : ℕ) → Promise f t s lent r left → Promise f t written lent r' left'
       → (r ≡ r') × (left ≡ left')
-  acts-as-155 f lent left left' r r' p q = one-call s written blank-alike f p q
+  acts-as-155 f t lent left left' r r' p q = one-call s written blank-alike p q
 
--- a smaller C0 written into an accepted sheet
-module _ (s : List ℕ) (c : ℕ) (least : 100 ≤ c) (most : c ≤ product-of s .factor) (list list' : List ℕ) where
-  pub smaller-factor : LeftFor computed s list → LeftFor computed (with-factor c s) list' → NoSmaller s list (with-factor c s) list'
+-- a smaller C0 written into an accepted sheet, whatever the filling pressures are
+module _ (f : FillingNumbers) (s : List ℕ) (c : ℕ) (least : 100 ≤ c) (most : c ≤ product-of s .factor) (list list' : List ℕ) where
+  pub smaller-factor : LeftFor f s list → LeftFor f (with-factor c s) list' → NoSmaller s list (with-factor c s) list'
   smaller-factor a a' =
       let ok = accepted s (a .accepted) .measured in
       let ten = ok .layout .product-length in
@@ -175,22 +173,22 @@ module _ (s : List ℕ) (c : ℕ) (least : 100 ≤ c) (most : c ≤ product-of s
       let silo : silo-of s' ≡ silo-with c (silo-of s) = silo-written s c ten inside least two-hundred (ok .layout) in
       let m : SameParts s s' = parts-kept s c ten (ok .layout) in
       let fits = silo-fits s ok in
-      let at : (l : Load) (i : ℕ) → i < depth-count s → load-in s' list' l i ≡ number computed (silo-with c (silo-of s)) l (depth s i) =
-      λ l i h. depths-by s s' m computed list' (a' .filled) l i h ∙ ap (λ (x : Silo). number computed x l (depth s i)) silo in
+      let at : (l : Load) (i : ℕ) → i < depth-count s → load-in s' list' l i ≡ number f (silo-with c (silo-of s)) l (depth s i) =
+      λ l i h. depths-by s s' m f list' (a' .filled) l i h ∙ ap (λ (x : Silo). number f x l (depth s i)) silo in
       record {
-        p-he-no-smaller = λ i h. rw (at p-he i h, a .filled .at-depths p-he i h) (p-he-less c (silo-of s) fits least most (depth s i));
-        patch-no-smaller = λ i h. rw (at p-p i h, a .filled .at-depths p-p i h) (p-p-less c (silo-of s) fits least most (depth s i));
+        p-he-no-smaller = λ i h. rw (at p-he i h, a .filled .at-depths p-he i h) (p-he-less f c (silo-of s) fits least most (depth s i));
+        patch-no-smaller = λ i h. rw (at p-p i h, a .filled .at-depths p-p i h) (p-p-less f c (silo-of s) fits least most (depth s i));
         strakes-no-smaller =
             λ k h.
-            let there = strakes-by s s' m computed list' (a' .filled) k h ∙ ap (λ (x : Silo). number computed x p-he (edge-of s (suc k))) silo in
-            rw (there, a .filled .at-strakes k h) (p-he-less c (silo-of s) fits least most (edge-of s (suc k)));
-        filling-same = λ l o i h. a .filled .at-depths l i h ∙ sym (at l i h ∙ number-with c (silo-of s) o (depth s i));
-        p-we-same = λ i h. a .filled .at-depths p-we i h ∙ sym (at p-we i h ∙ p-we-with c (silo-of s) (depth s i));
+            let there = strakes-by s s' m f list' (a' .filled) k h ∙ ap (λ (x : Silo). number f x p-he (edge-of s (suc k))) silo in
+            rw (there, a .filled .at-strakes k h) (p-he-less f c (silo-of s) fits least most (edge-of s (suc k)));
+        filling-same = λ l o i h. a .filled .at-depths l i h ∙ sym (at l i h ∙ number-with f c (silo-of s) o (depth s i));
+        p-we-same = λ i h. a .filled .at-depths p-we i h ∙ sym (at p-we i h ∙ p-we-with f c (silo-of s) (depth s i));
         bottom-same =
             λ k h. a .filled .at-bottom k h
-            ∙ sym (a' .filled .at-bottom k h ∙ ap (λ (x : Silo). getD (bottom-numbers computed x) k 0) silo ∙ ap (λ (x : List ℕ). getD x k 0) (bottom-with c (silo-of s)));
+            ∙ sym (a' .filled .at-bottom k h ∙ ap (λ (x : Silo). getD (bottom-numbers f x) k 0) silo ∙ ap (λ (x : List ℕ). getD x k 0) (bottom-with f c (silo-of s)));
       }
 
-pub blank-beside-135 : (s : List ℕ) → product-sent s .factor ≡ 0 → (list list' : List ℕ) → LeftFor computed s list → LeftFor computed (with-factor 135 s) list'
+pub blank-beside-135 : (f : FillingNumbers) (s : List ℕ) → product-sent s .factor ≡ 0 → (list list' : List ℕ) → LeftFor f s list → LeftFor f (with-factor 135 s) list'
     → NoSmaller s list (with-factor 135 s) list'
-blank-beside-135 s blank list list' a a' = smaller-factor s 135 (omega arith) (omega (arith, blank-factor s blank)) list list' a a'
+blank-beside-135 f s blank list list' a a' = smaller-factor f s 135 (omega arith) (omega (arith, blank-factor s blank)) list list' a a'

@@ -10,7 +10,6 @@ use native.Mathlib.Decide.{decLe}
 use native.Mathlib.Omega.{arith}
 use lib.ListN.{length, length-append}
 use Rattle.janssen.specs.Numbers.{FillingNumbers}
-use Rattle.janssen.specs.program.Pressure.{computed}
 use Rattle.records.specs.Rules.{first-unmet}
 use Rattle.records.specs.Format.{u16, u32, four-bytes, record-bytes, place, payload, allowed, record-rules, layout-rules}
 use Rattle.records.proofs.Records.{seven-records}
@@ -26,9 +25,8 @@ use Rattle.loads.specs.Load.{OfFilling, load-depth, number}
 use Rattle.loads.specs.Load.Load.{p-vf}
 use Rattle.answers.specs.Length.{answers-length}
 use Rattle.answers.specs.Answers.{silo-of, depth, load-in, Filled}
-use Rattle.answers.specs.Claim.{LeftFor, SameSectionAndProduct}
+use Rattle.answers.specs.Claim.{LeftFor, SameSectionAndProduct, Claim}
 use Rattle.answers.specs.Promise.{Promise}
-use Rattle.answers.proofs.Demand.{claim}
 use Rattle.answers.proofs.OneSilo.{Alike, one-length, one-call}
 
 -- a record with headroom 0
@@ -91,17 +89,17 @@ module _ (s : List ℕ) (six : place s 6 ≡ length s) where
     pub level-length : answers-length s ≡ answers-length (s ++ level)
     level-length = one-length s (s ++ level) level-alike
 
-    pub level-record : (f : FillingNumbers) (lent left left' : List ℕ) (r r' : ℕ) → Promise f s lent r left → Promise f (s ++ level) lent r' left'
+    pub level-record : (f : List ℕ → FillingNumbers) (t lent left left' : List ℕ) (r r' : ℕ) → Promise f t s lent r left → Promise f t (s ++ level) lent r' left'
         → (r ≡ r') × (left ≡ left')
-    level-record f lent left left' r r' a b = one-call s (s ++ level) level-alike f a b
+    level-record f t lent left left' r r' a b = one-call s (s ++ level) level-alike a b
 
 -- z - g, listed on an accepted sheet without headroom, beside z
-pub level-sheet : (s s' list list' : List ℕ) → LeftFor computed s list → LeftFor computed s' list' → SameSectionAndProduct s s' → headroom-of s' ≡ 0
+pub level-sheet : (f : FillingNumbers) (s s' list list' : List ℕ) → Claim f s list → LeftFor f s' list' → SameSectionAndProduct s s' → headroom-of s' ≡ 0
     → (l : Load) → OfFilling l → (i j : ℕ) → i < depth-count s → j < depth-count s' → depth s' j ≡ depth s i - headroom-of s
     → load-in s list l i ≡ load-in s' list' l j
 unfolding load-depth
-level-sheet s s' list list' a b same brim l o i j h k e =
-    claim s list (a .accepted) (a .filled) .ordered s' list' b same l o i j h k .same (omega (arith, e, brim))
+level-sheet f s s' list list' a b same brim l o i j h k e =
+    a .ordered s' list' b same l o i j h k .same (omega (arith, e, brim))
 
 -- the pressure on floor and hopper is the one that the list has for z = V
 pub foot-listed : (f : FillingNumbers) (s list : List ℕ) → Filled f s list → (i : ℕ) → i < depth-count s → depth s i ≡ V-of s

@@ -94,7 +94,7 @@ module _ (s s' : List ℕ) where
         answers-alike s s' _ _ (loads-alike s s' (alike .refusals))
         (λ h. ap (λ (m : ℕ). first-unmet (14 unless eqb n m ∷ [])) (due-same (accepted-alike h .parts)))
 
-    module _ (f : FillingNumbers) {lent left left' : List ℕ} {r r' : ℕ} (a : Promise f s lent r left) (b : Promise f s' lent r' left') where
+    module _ {f : List ℕ → FillingNumbers} {t lent left left' : List ℕ} {r r' : ℕ} (a : Promise f t s lent r left) (b : Promise f t s' lent r' left') where
       answers-same : r ≡ r'
       answers-same = a .answer ∙ answer-by (length lent) ∙ sym (b .answer)
 
@@ -102,7 +102,7 @@ module _ (s s' : List ℕ) where
       left-by (yes z) =
           let h : r ≡ 0 = omega (arith, z) in
           let o : OneSilo s s' = accepted-alike (not-refused s (length lent) (sym (a .answer) ∙ h)) in
-          filled-once f s left left' (a .filled h) (filled-same o f left' (b .filled (sym answers-same ∙ h)))
+          filled-once (f t) s left left' (a .filled h) (filled-same o (f t) left' (b .filled (sym answers-same ∙ h)))
       left-by (no n) = a .unchanged (λ z. n (omega (arith, z))) ∙ sym (b .unchanged (λ z. n (omega (arith, z, answers-same))))
 
       pub one-call : (r ≡ r') × (left ≡ left')

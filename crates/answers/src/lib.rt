@@ -1,5 +1,6 @@
 // The answer list of a sheet: the call that fills it. Document 01, "Answer list" and "Who can be refused"; document 02, C-13.
-ghost use Rattle.janssen.specs.program.Pressure.{computed};
+ghost use Rattle.exponential.specs.program.Table.{table};
+ghost use Rattle.janssen.specs.program.Pressure.{computed-by};
 ghost use Rattle.answers.specs.Promise.{Promise};
 use sheet::Asked;
 
@@ -8,7 +9,7 @@ pub mod length; // the call that tells its length
 
 // The load call: 0 with the list filled, or the number of the first refusal with the list as it was.
 pub fn loads(sheet: &[u8], answers: &mut [u32]) -> u32
-    ensures { λ r. ⌜ Promise computed (now (sheet .entry)) (now (answers .entry)) r (now (answers .exit)) ⌝ }
+    ensures { λ r. ⌜ Promise computed-by table (now (sheet .entry)) (now (answers .entry)) r (now (answers .exit)) ⌝ }
 {
     let judged = sheet::examine(Asked::Loads, sheet, 0);
     if judged.refused != 0 {

@@ -7,10 +7,10 @@ use lib.Dec.{ltb→lt, leb→le}
 use lib.ListN.{getD}
 use Rattle.fraction.specs.Fraction.{up}
 use Rattle.exponential.specs.program.Table.{table}
-use Rattle.exponential.specs.program.Lower.{lower, between, denominator, entry}
+use Rattle.exponential.specs.program.Lower.{lower-by, between, denominator, entry-in}
 use Rattle.janssen.specs.Section.{side-a, side-b, d-c, R}
 use Rattle.janssen.specs.Filling.{Ks, μ, z0, q, γR, P}
-use Rattle.janssen.specs.program.Pressure.{step, limit, decay, pressure, filling, computed}
+use Rattle.janssen.specs.program.Pressure.{step, limit, decay-by, pressure, filling-by, computed-by, computed}
 use Rattle.discharge.specs.Discharge.{magnifier, magnified-load}
 use Rattle.records.specs.Format.{u16, u32, numbers, place, kind, payload, payload-length, record-count}
 use Rattle.description.specs.Silo.{section-of, product-sent, product-of, factor-read, eccentricities-of, bottom-of, strake-count, strakes-of, depth-count, depths-of, sum, V-of, headroom-of}
@@ -30,17 +30,17 @@ written : with-factor 155 (factor-sheet 0) ≡ factor-sheet 155
 unfolding with-factor behind-section case-sheet payload place u16
 written = refl
 
-pub same-as-155 : (lent left left' : List ℕ) (r r' : ℕ) → Promise computed (factor-sheet 0) lent r left → Promise computed (factor-sheet 155) lent r' left'
+pub same-as-155 : (lent left left' : List ℕ) (r r' : ℕ) → Promise computed-by table (factor-sheet 0) lent r left → Promise computed-by table (factor-sheet 155) lent r' left'
     → (r ≡ r') × (left ≡ left')
 same-as-155 lent left left' r r' a b =
-    acts-as-155 (factor-sheet 0) blank computed lent left left' r r' a (subst (λ (s : List ℕ). Promise computed s lent r' left') (sym written) b)
+    acts-as-155 (factor-sheet 0) blank computed-by table lent left left' r r' a (subst (λ (s : List ℕ). Promise computed-by table s lent r' left') (sym written) b)
 
 -- p_he of the second depth, 5,000
 p-he-beside : (number computed (silo-of (factor-sheet 0)) p-he (depth (factor-sheet 0) 1) ≡ 27276) × (number computed (silo-of (factor-sheet 135)) p-he (depth (factor-sheet 135) 1) ≡ 23756)
-unfolding behind-section case-sheet place payload payload-length kind u16 u32 numbers section-of product-sent product-of factor-read eccentricities-of bottom-of strake-count strakes-of depth-count depths-of sum V-of headroom-of record-count load-depth magnifier magnified-load filling pressure decay limit step P q z0 γR R Ks μ up lower between denominator entry table side-a side-b d-c
+unfolding behind-section case-sheet place payload payload-length kind u16 u32 numbers section-of product-sent product-of factor-read eccentricities-of bottom-of strake-count strakes-of depth-count depths-of sum V-of headroom-of record-count load-depth magnifier magnified-load filling-by pressure decay-by limit step P q z0 γR R Ks μ up lower-by between denominator entry-in table side-a side-b d-c
 p-he-beside = (refl, refl)
 
-pub other-than-135 : (lent left left' : List ℕ) → Promise computed (factor-sheet 0) lent 0 left → Promise computed (factor-sheet 135) lent 0 left' → left ≡ left' → ⊥
+pub other-than-135 : (lent left left' : List ℕ) → Promise computed-by table (factor-sheet 0) lent 0 left → Promise computed-by table (factor-sheet 135) lent 0 left' → left ≡ left' → ⊥
 unfolding behind-section case-sheet place payload-length u16 depth-count
 other-than-135 lent left left' a b e =
     let x : getD left 13 0 ≡ 27276 = a .filled refl .at-depths p-he 1 (ltb→lt _ _ tt) ∙ p-he-beside .0 in

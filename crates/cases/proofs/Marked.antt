@@ -9,14 +9,14 @@ use mathlib.Core.Bool.{true}
 use mathlib.Core.Path.{_≡_, refl, ap, ap₂, _∙_}
 use Rattle.fraction.specs.Fraction.{_⊘_, up}
 use Rattle.exponential.specs.program.Table.{table}
-use Rattle.exponential.specs.program.Lower.{lower, between, denominator, entry}
+use Rattle.exponential.specs.program.Lower.{lower-by, between, denominator, entry-in}
 use Rattle.janssen.specs.declared.Section.the-variants.{Circle}
 use Rattle.janssen.specs.Filling.Kind.{horizontal, vertical, wall-friction}
 use Rattle.janssen.specs.program.Range.{InRange, InDepth}
 use Rattle.janssen.specs.Numbers.{FillingNumbers}
 use Rattle.janssen.specs.Section.{side-a, side-b, d-c, R}
-use Rattle.janssen.specs.Filling.{Ks, μ, z0, q, γR, P, D, N}
-use Rattle.janssen.specs.program.Pressure.{step, limit, decay, pressure, filling, z0-scaled, loaded-depth, load, wall-load, computed}
+use Rattle.janssen.specs.Filling.{grain-of, Ks, μ, z0, q, γR, P, D, N}
+use Rattle.janssen.specs.program.Pressure.{step, limit, decay-by, pressure, filling-by, z0-scaled, loaded-depth, load, wall-load-by, computed-by, computed}
 use Rattle.discharge.specs.Discharge.{magnifier, horizontal-magnifier, friction-magnifier, magnified-load, patch-load}
 use Rattle.loads.specs.Load.{Load}
 use Rattle.loads.specs.Load.{load-depth, full-height, C-h, C-w, number}
@@ -60,7 +60,7 @@ module _ (g : FillingNumbers) (s : List ℕ) (u : OfHeight 7499 s) where
       ap₂ (λ (h p : ℕ). magnified-load (friction-magnifier h (d-c (section-of s))) p) height e
       ∙ ap (λ (d : ℕ). magnified-load (friction-magnifier 7499 d) 7345) (u .width)
 
-in-range : InRange (Circle 5000) case-product
+in-range : InRange (Circle 5000) (grain-of case-product)
 unfolding side-a side-b
 in-range = record {
   a-in = record { least = omega arith; most = omega arith };
@@ -75,7 +75,7 @@ unfolding d-c side-a side-b
 in-depth = record { below-ten = omega arith; wall = omega arith }
 
 surface : (l : Load) → number computed case-silo l 0 ≡ 0
-unfolding load-depth D N magnifier magnified-load patch-load filling pressure wall-load load loaded-depth z0-scaled decay limit step P q z0 γR R Ks μ up lower between denominator entry table side-a side-b d-c
+unfolding load-depth D N magnifier magnified-load patch-load filling-by pressure wall-load-by load loaded-depth z0-scaled decay-by limit step P q z0 γR R Ks μ up lower-by between denominator entry-in table side-a side-b d-c
 surface listed-depth = refl
 surface p-hf = refl
 surface p-wf = refl
@@ -86,7 +86,7 @@ surface p-we = refl
 surface p-p = refl
 
 middle : (l : Load) → number computed case-silo l 5000 ≡ middle-number l
-unfolding load-depth D N magnifier magnified-load patch-load filling pressure wall-load load loaded-depth z0-scaled decay limit step P q z0 γR R Ks μ up lower between denominator entry table side-a side-b d-c
+unfolding load-depth D N magnifier magnified-load patch-load filling-by pressure wall-load-by load loaded-depth z0-scaled decay-by limit step P q z0 γR R Ks μ up lower-by between denominator entry-in table side-a side-b d-c
 middle listed-depth = refl
 middle p-hf = refl
 middle p-wf = refl
@@ -96,17 +96,17 @@ middle p-he = refl
 middle p-we = refl
 middle p-p = refl
 
-pub marked : Marked computed
-unfolding load-depth D N magnifier magnified-load patch-load filling pressure wall-load load loaded-depth z0-scaled decay limit step P q z0 γR R Ks μ up lower between denominator entry table behind-section case-sheet rectangle-sheet refusal-of length-refusal value-rules later-rules rules-with length-rules told length-due first-unmet layout-rules record-count records-rules record-rules allowed place payload payload-length kind u16 u32 numbers section-of product-sent eccentricities-of bottom-of strake-count strakes-of depth-count depths-of sum V-of headroom-of h-of sides-met proportion-met strakes-met depths-met side-a side-b d-c product-of factor-read
+pub marked : Marked computed-by table
+unfolding load-depth D N magnifier magnified-load patch-load filling-by pressure wall-load-by load loaded-depth z0-scaled decay-by limit step P q z0 γR R Ks μ up lower-by between denominator entry-in table behind-section case-sheet rectangle-sheet refusal-of length-refusal value-rules later-rules rules-with length-rules told length-due first-unmet layout-rules record-count records-rules record-rules allowed place payload payload-length kind u16 u32 numbers section-of product-sent eccentricities-of bottom-of strake-count strakes-of depth-count depths-of sum V-of headroom-of h-of sides-met proportion-met strakes-met depths-met side-a side-b d-c product-of factor-read
 marked =
     record {
       described = refl;
       deep-limit = (record { left = lit< tt; right = lit< tt; order = leb→le _ _ tt }, record { left = lit< tt; right = lit< tt; order = leb→le _ _ tt });
       surface = surface;
-      horizontal-pair = λ p band. filling-pair horizontal (Circle 5000) case-product 5000 in-range in-depth (lit< tt) 17596 p (ltb→lt _ _ tt) (ltb→lt _ _ tt) band;
-      friction-pair = λ p band. filling-pair wall-friction (Circle 5000) case-product 5000 in-range in-depth (lit< tt) 7344 p (ltb→lt _ _ tt) (ltb→lt _ _ tt) band;
-      vertical-pair = λ p band. filling-pair vertical (Circle 5000) case-product 5000 in-range in-depth (lit< tt) 33118 p (ltb→lt _ _ tt) (ltb→lt _ _ tt) band;
-      wall-load-pair = λ w band. wall-load-pair (Circle 5000) case-product 5000 in-range in-depth 21540 w (ltb→lt _ _ tt) (ltb→lt _ _ tt) band;
+      horizontal-pair = λ p band. filling-pair horizontal (Circle 5000) (grain-of case-product) 5000 in-range in-depth (lit< tt) 17596 p (ltb→lt _ _ tt) (ltb→lt _ _ tt) band;
+      friction-pair = λ p band. filling-pair wall-friction (Circle 5000) (grain-of case-product) 5000 in-range in-depth (lit< tt) 7344 p (ltb→lt _ _ tt) (ltb→lt _ _ tt) band;
+      vertical-pair = λ p band. filling-pair vertical (Circle 5000) (grain-of case-product) 5000 in-range in-depth (lit< tt) 33118 p (ltb→lt _ _ tt) (ltb→lt _ _ tt) band;
+      wall-load-pair = λ w band. wall-load-pair (Circle 5000) (grain-of case-product) 5000 in-range in-depth 21540 w (ltb→lt _ _ tt) (ltb→lt _ _ tt) band;
       discharge = λ g e. ap (magnified-load (C-h case-silo)) e;
       patch = λ g e. ap (λ (x : ℕ). patch-load 0 (d-c (Circle 5000)) (magnified-load (C-h case-silo) x)) e;
       friction-discharge = λ g e. ap (magnified-load (C-w case-silo)) e;

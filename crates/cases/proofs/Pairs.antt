@@ -11,8 +11,7 @@ use Rattle.fraction.proofs.Order.{pos-left}
 use Rattle.exponential.specs.Series.{S}
 use Rattle.exponential.proofs.SeriesLaws.{S-one}
 use Rattle.janssen.specs.declared.Section.{Section}
-use Rattle.janssen.specs.declared.Product.{Product}
-use Rattle.janssen.specs.Filling.{Kind, factors, q, P, D, N}
+use Rattle.janssen.specs.Filling.{Grain, Kind, factors, q, P, D, N}
 use Rattle.janssen.specs.Filling.Kind.{wall-friction}
 use Rattle.janssen.specs.Band.{FillingBand, WallLoadBand}
 use Rattle.janssen.specs.program.Pressure.{step, decay}
@@ -61,7 +60,7 @@ under n m b h = go (decLt n m)
     go (yes j) = j
     go (no j) = let k : b * m ≤ b * n = mul-le-mul-left b (omega (arith, j)) in omega (arith, h, k)
 
-module _ (k : Kind) (s : Section) (p : Product) (z : ℕ) (i : InRange s p) (d : InDepth s z) (positive : 0 < z) where
+module _ (k : Kind) (s : Section) (p : Grain) (z : ℕ) (i : InRange s p) (d : InDepth s z) (positive : 0 < z) where
   abbrev P-top : ℕ
   P-top = P k s p .top
 
@@ -85,7 +84,7 @@ module _ (k : Kind) (s : Section) (p : Product) (z : ℕ) (i : InRange s p) (d :
       most P-top P-bottom (S (c .0) (q (factors k) s p z) .top) (S (c .0) (q (factors k) s p z) .bottom) E-at n (pos-left _ _ (f .left)) (omega (arith, g .right, g .order)) (g .right) (omega (arith, decay-below k s p i z d (c .0) .order)) (c .1 .order) in
       left m n (under m n P-bottom (omega (arith, low, u))) (under n (m + 3) P-bottom (omega (arith, high, v)))
 
-module _ (s : Section) (p : Product) (z : ℕ) (i : InRange s p) (d : InDepth s z) where
+module _ (s : Section) (p : Grain) (z : ℕ) (i : InRange s p) (d : InDepth s z) where
   abbrev D-top : ℕ
   D-top = D s p .top
 

@@ -10,7 +10,7 @@ use Rattle.fraction.specs.Fraction.{whole, _⪯_}
 use Rattle.janssen.specs.Section.{d-c}
 use Rattle.janssen.specs.declared.Section.the-variants.{Circle}
 use Rattle.janssen.specs.declared.Product.{Product}
-use Rattle.janssen.specs.Filling.{P}
+use Rattle.janssen.specs.Filling.{grain-of, P}
 use Rattle.janssen.specs.Filling.Kind.{horizontal}
 use Rattle.janssen.specs.Numbers.{FillingNumbers}
 use Rattle.records.specs.Rules.{first-unmet}
@@ -90,14 +90,14 @@ middle-number p-he = 24636
 middle-number p-we = 8080
 middle-number p-p = 4928
 
--- f names the filling pressures and P_w, as in the load call's promise
-pub record Marked (f : FillingNumbers) : Type 0 where
+-- f and t name the filling pressures, P_w and their table, as in the load call's promise
+pub record Marked (f : List ℕ → FillingNumbers) (t : List ℕ) : Type 0 where
   -- the silo that the sheet of the cases describes
   pub described : silo-of (factor-sheet 140) ≡ case-silo
   -- P for p_hf is 31,250
-  pub deep-limit : (P horizontal (Circle 5000) case-product ⪯ whole 31250) × (whole 31250 ⪯ P horizontal (Circle 5000) case-product)
+  pub deep-limit : (P horizontal (Circle 5000) (grain-of case-product) ⪯ whole 31250) × (whole 31250 ⪯ P horizontal (Circle 5000) (grain-of case-product))
   -- z = 0 gives 0
-  pub surface : (l : Load) → number f case-silo l 0 ≡ 0
+  pub surface : (l : Load) → number (f t) case-silo l 0 ≡ 0
   -- z = 5,000, any number inside its band: p_hf 17,597 or 17,598; p_wf 7,345 or 7,346; p_vf 33,119 or 33,120; P_w 21,541 or 21,542
   pub horizontal-pair : (p : ℕ) → Holds case-silo p-hf 5000 p → (p ≡ 17597) ⊎ (p ≡ 17598)
   pub friction-pair : (p : ℕ) → Holds case-silo p-wf 5000 p → (p ≡ 7345) ⊎ (p ≡ 7346)
@@ -108,7 +108,7 @@ pub record Marked (f : FillingNumbers) : Type 0 where
   pub patch : (g : FillingNumbers) → number g case-silo p-hf 5000 ≡ 17597 → number g case-silo p-p 5000 ≡ 4928
   pub friction-discharge : (g : FillingNumbers) → number g case-silo p-wf 5000 ≡ 7345 → number g case-silo p-we 5000 ≡ 8080
   -- the numbers that the answer list has: of each pair the first
-  pub middle : (l : Load) → number f case-silo l 5000 ≡ middle-number l
+  pub middle : (l : Load) → number (f t) case-silo l 5000 ≡ middle-number l
   -- h 7,500 accepted, and 7,499 (document 02, C-11); 49,999 accepted, 50,000 gives 12
   pub h-7500 : HeightGives 7500 0
   pub h-7499 : HeightGives 7499 0
@@ -143,11 +143,11 @@ pub record Marked (f : FillingNumbers) : Type 0 where
   pub factor-99 : refusal-of (factor-sheet 99) ≡ 7
   -- C0 0 acts as 155 (document 02, C-14): accepted; lent the same list, the load call answers the same and leaves the same list
   pub factor-0 : refusal-of (factor-sheet 0) ≡ 0
-  pub factor-155 : (lent left left' : List ℕ) (r r' : ℕ) → Promise f (factor-sheet 0) lent r left → Promise f (factor-sheet 155) lent r' left'
+  pub factor-155 : (lent left left' : List ℕ) (r r' : ℕ) → Promise f t (factor-sheet 0) lent r left → Promise f t (factor-sheet 155) lent r' left'
       → (r ≡ r') × (left ≡ left')
   -- and no longer as 135: p_hf 17,597 gives p_he 27,276 and p_p 5,456, beside 23,756 and 4,752; the lists left differ
   pub blank-discharge : (g : FillingNumbers) → number g (silo-of (factor-sheet 0)) p-hf 5000 ≡ 17597
       → (number g (silo-of (factor-sheet 0)) p-he 5000 ≡ 27276) × (number g (silo-of (factor-sheet 0)) p-p 5000 ≡ 5456)
   pub discharge-135 : (g : FillingNumbers) → number g (silo-of (factor-sheet 135)) p-hf 5000 ≡ 17597
       → (number g (silo-of (factor-sheet 135)) p-he 5000 ≡ 23756) × (number g (silo-of (factor-sheet 135)) p-p 5000 ≡ 4752)
-  pub factor-135 : (lent left left' : List ℕ) → Promise f (factor-sheet 0) lent 0 left → Promise f (factor-sheet 135) lent 0 left' → left ≡ left' → ⊥
+  pub factor-135 : (lent left left' : List ℕ) → Promise f t (factor-sheet 0) lent 0 left → Promise f t (factor-sheet 135) lent 0 left' → left ≡ left' → ⊥

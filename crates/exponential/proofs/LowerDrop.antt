@@ -9,7 +9,7 @@ use native.Mathlib.Omega.{arith}
 use Rattle.fraction.specs.Fraction.{Fraction, _⊘_, whole, _⊗_, _⪯_}
 use Rattle.fraction.proofs.Order.{≺-⪯}
 use Rattle.exponential.specs.Series.{factorial, term, S}
-use Rattle.exponential.specs.program.Lower.{denominator, between, entry, lower}
+use Rattle.exponential.specs.program.Lower.{denominator, between, entry, lower-by, lower}
 use Rattle.exponential.proofs.Terms.{S-positive}
 use Rattle.exponential.proofs.SeriesLaws.{S-one, S-split}
 use Rattle.exponential.proofs.TableLaws.{entry-zero}
@@ -21,7 +21,7 @@ lower-anywhere Q h = let a = lower-above Q h in (a .0, ≺-⪯ (a .1))
 
 -- the quotient's rounding, at the first entry
 quotient-first : (Q : ℕ) → Q < 2 ^ 27 → 2 ^ 40 * (2 ^ 35 - Q) < lower Q * denominator Q + denominator Q
-unfolding lower between
+unfolding lower-by between
 quotient-first Q h =
     let e : Q / 2 ^ 27 ≡ 0 = omega arith in
     let r : Q % 2 ^ 27 ≡ Q = omega arith in

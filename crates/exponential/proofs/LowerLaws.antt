@@ -16,7 +16,7 @@ use Rattle.fraction.proofs.Up.{up-ge, up-lt, up-mono}
 use Rattle.exponential.specs.Series.{S}
 use Rattle.exponential.specs.Table.{Below, Above}
 use Rattle.exponential.specs.program.Table.{table}
-use Rattle.exponential.specs.program.Lower.{denominator, between, entry, lower}
+use Rattle.exponential.specs.program.Lower.{denominator, between, entry-in, entry, lower-by, lower}
 use Rattle.exponential.proofs.Terms.{terms, terms-are, S-positive}
 use Rattle.exponential.proofs.Weighted.{wsum, weighted-bound, weighted-equal, sum-at-most, sum-at-least}
 use Rattle.exponential.proofs.SeriesLaws.{S-one, S-mono, S-split}
@@ -200,20 +200,20 @@ module _ (Q : ℕ) (h : Q < 53 * 2 ^ 33) where
 
   -- at most 2^40·e^(-Q/2^33)
   pub lower-below : Below (lower Q) (Q ⊘ 2 ^ 33)
-  unfolding lower bound
+  unfolding lower-by bound
   lower-below = rw parts at (bound-below (Q / 2 ^ 27) (Q % 2 ^ 27) whole-part rest-small)
 
   -- less than 354 below it
   pub lower-above : Above (lower Q + 354) (Q ⊘ 2 ^ 33)
-  unfolding lower bound
+  unfolding lower-by bound
   lower-above = rw parts at (bound-above (Q / 2 ^ 27) (Q % 2 ^ 27) whole-part rest-small)
 
   lower-entry : lower Q ≤ entry (Q / 2 ^ 27)
-  unfolding lower bound
+  unfolding lower-by bound
   lower-entry = bound-le (Q / 2 ^ 27) (Q % 2 ^ 27) whole-part rest-small
 
   lower-next : entry (Q / 2 ^ 27 + 1) ≤ lower Q
-  unfolding lower bound
+  unfolding lower-by bound
   lower-next = bound-next (Q / 2 ^ 27) (Q % 2 ^ 27) whole-part rest-small
 
   pub lower-le : lower Q ≤ 2 ^ 40
@@ -245,7 +245,7 @@ between-falls t next {j} {j'} l =
     (le-max-right (t * (2 ^ 35 - j) / denominator j) next)
 
 lower-falls-here : (Q Q' : ℕ) → Q ≤ Q' → Q' / 2 ^ 27 ≡ Q / 2 ^ 27 → lower Q' ≤ lower Q
-unfolding lower
+unfolding lower-by
 lower-falls-here Q Q' l e = rw e (between-falls (entry (Q / 2 ^ 27)) (entry (Q / 2 ^ 27 + 1)) (omega arith))
 
 lower-falls-across : (Q Q' : ℕ) → Q' < 53 * 2 ^ 33 → Q / 2 ^ 27 < Q' / 2 ^ 27 → lower Q' ≤ lower Q
@@ -264,7 +264,7 @@ lower-falls Q Q' l h = go (decLe (Q' / 2 ^ 27) (Q / 2 ^ 27))
     go (no k) = lower-falls-across Q Q' h (omega arith)
 
 pub lower-zero : lower 0 ≡ 2 ^ 40
-unfolding lower between denominator entry up table
+unfolding lower-by between denominator entry-in up table
 lower-zero = refl
 
 -- the part of a whole that Q/2^33 lies above a/b costs 132 in 2^40

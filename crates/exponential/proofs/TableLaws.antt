@@ -15,7 +15,7 @@ use Rattle.fraction.specs.Fraction.{_⊘_, whole, _⊗_, _⪯_}
 use Rattle.exponential.specs.Series.{factorial, term, S}
 use Rattle.exponential.specs.Table.{Enclosed, Tabulated}
 use Rattle.exponential.specs.program.Table.{table}
-use Rattle.exponential.specs.program.Lower.{entry}
+use Rattle.exponential.specs.program.Lower.{entry-in, entry}
 use Rattle.exponential.proofs.Terms.{terms, terms-are}
 use Rattle.exponential.proofs.Weighted.{wsum, weighted-bound, sum-at-most}
 use Rattle.exponential.proofs.SeriesLaws.{S-one}
@@ -89,13 +89,13 @@ unfolding table
 table-length = refl
 
 follow : (k : ℕ) → suc k < 3393 → T (follows (entry k) (entry (suc k)))
-unfolding entry
+unfolding entry-in
 follow k l =
     rw table-starts
     (neighbour (2 ^ 40) (tail table) tested k (omega (arith, table-length, ap length table-starts)))
 
 pub entry-zero : entry 0 ≡ 2 ^ 40
-unfolding entry
+unfolding entry-in
 entry-zero = rw table-starts
 
 -- S_n(0) is 1
@@ -117,7 +117,7 @@ enclosed zero l = rw entry-zero enclosed-zero
 enclosed (suc k) l = enclosed-next k (entry k) (entry (suc k)) (follow k l) (enclosed k (omega arith))
 
 pub tabulated : Tabulated table
-unfolding entry
+unfolding entry-in
 tabulated = record { count = table-length; first = entry-zero; each = enclosed }
 
 -- the table never rises

@@ -9,8 +9,8 @@ use Rattle.fraction.specs.Fraction.{Fraction, _⊘_, whole, _⊕_, _⊗_, _⪯_
 use Rattle.fraction.proofs.Order.{⪯-refl, ⪯-trans, ⊕-mono, ⊗-mono}
 use Rattle.fraction.proofs.Up.{up-lt, up-le, up-mono, up-above, up-same, up-nest}
 use Rattle.janssen.specs.declared.Section.{Section}
-use Rattle.janssen.specs.declared.Product.{Product}
 use Rattle.janssen.specs.Section.{R, side-a, side-b}
+use Rattle.janssen.specs.Filling.{Grain}
 use Rattle.janssen.specs.program.Range.{InRange}
 use Rattle.allowance.specs.Allowance.{Lower, Allowance}
 use Rattle.allowance.proofs.LowerLaws.{Filled}
@@ -36,7 +36,7 @@ nested x top rise across n d H r e et eh er hd hr =
     e ∙ rw (et, eh, er) (up-nest (n * (H * H)) d (H * H + r * r) hd (squares-pos H r hr))
 
 -- B as the program divides
-pub base-divided : (s : Section) (p : Product) (H r : ℕ) → 0 < side-a s → 0 < r →
+pub base-divided : (s : Section) (p : Grain) (H r : ℕ) → 0 < side-a s → 0 < r →
     up ((69 * side-a s * side-b s * (p .weight * p .ratio) * (H * H)) ⊘ (4000000 * (side-a s + side-b s) * (H * H + r * r))) ≡ B s p H r
 unfolding B R
 base-divided s p H r ha hr =
@@ -52,7 +52,7 @@ base-divided s p H r ha hr =
     (mul-pos {m = 1 * (1000000 * (2 * (a * 1000 + b * 1000))) * 1 * 100 * 100} (omega arith) (squares-pos H r hr))
     (omega arith)
 
-pub base-proper : (s : Section) (p : Product) (H r : ℕ) → InRange s p → 0 < r → 0 < base s p H r .bottom
+pub base-proper : (s : Section) (p : Grain) (H r : ℕ) → InRange s p → 0 < r → 0 < base s p H r .bottom
 unfolding R
 base-proper s p H r range hr =
     mul-pos
@@ -61,7 +61,7 @@ base-proper s p H r range hr =
     (squares-pos H r hr)
 
 -- ranges
-pub B-range : (s : Section) (p : Product) (H r : ℕ) → InRange s p → 0 < r → B s p H r ≤ 2587500
+pub B-range : (s : Section) (p : Grain) (H r : ℕ) → InRange s p → 0 < r → B s p H r ≤ 2587500
 B-range s p H r range hr =
     let a : ℕ = side-a s in
     let b : ℕ = side-b s in
@@ -78,7 +78,7 @@ B-range s p H r range hr =
     (omega (arith, mul-le-mul (mul-le-mul sides stored) height)))
 
 -- the answer for the sides a and b
-pub base-answer : (s : Section) (p : Product) (H r a b x : ℕ) → InRange s p → 0 < r → side-a s ≡ a → side-b s ≡ b →
+pub base-answer : (s : Section) (p : Grain) (H r a b x : ℕ) → InRange s p → 0 < r → side-a s ≡ a → side-b s ≡ b →
     x ≡ up ((69 * a * b * (p .weight * p .ratio) * (H * H)) ⊘ (4000000 * (a + b) * (H * H + r * r))) →
     (x ≡ B s p H r) × (x ≤ 2587500)
 base-answer s p H r a b x range hr ea eb e =
@@ -179,7 +179,7 @@ pt-near μ H r k n p v hm hr hk hp =
         }
 
 -- allowances, for p_vf = x at the wall's foot
-module _ {P q : Fraction} (s : Section) (p : Product) (H r k x : ℕ) (range : InRange s p) (hr : 0 < r) (hk : k ≤ 4) (fill : Filled P q x) where
+module _ {P q : Fraction} (s : Section) (p : Grain) (H r k x : ℕ) (range : InRange s p) (hr : 0 < r) (hk : k ≤ 4) (fill : Filled P q x) where
   lowest : Low
   lowest = record { v = whole (x - 2); u = (3 * n3 (p .friction) (B s p H r) - 13) ⊘ 3 }
 

@@ -5,9 +5,8 @@ use mathlib.Core.Bool.{Bool}
 use lib.Dec.{leb}
 use Rattle.fraction.specs.Fraction.{Fraction, _⊘_, whole, _⊕_, _⊗_, _⪯_, up}
 use Rattle.janssen.specs.declared.Section.{Section}
-use Rattle.janssen.specs.declared.Product.{Product}
 use Rattle.janssen.specs.Section.{R}
-use Rattle.janssen.specs.Filling.{upper-factor, lower-factor, hundredths}
+use Rattle.janssen.specs.Filling.{Grain, upper-factor, lower-factor, hundredths}
 use Rattle.hopper.specs.Least.{least}
 
 -- sin²α and cos²α, α from the horizontal
@@ -18,7 +17,7 @@ abbrev pub cos² : ℕ → ℕ → Fraction
 cos² H r = (r * r) ⊘ (H * H + r * r)
 
 -- 3·R·γ·1.15·Ks·sin²α: B unrounded
-abbrev pub base : Section → Product → ℕ → ℕ → Fraction
+abbrev pub base : Section → Grain → ℕ → ℕ → Fraction
 base s p H r = whole 3 ⊗ R s ⊗ whole (p .weight) ⊗ upper-factor ⊗ hundredths (p .ratio) ⊗ sin² H r
 
 -- 0.9·μ·u²
@@ -38,7 +37,7 @@ abbrev pub hopper-friction : ℕ → Fraction → Fraction
 hopper-friction μ n = n ⊗ upper-factor ⊗ hundredths μ
 
 -- B = up(3·R·γ·1.15·Ks·sin²α)
-unfoldable pub B : Section → Product → ℕ → ℕ → ℕ
+unfoldable pub B : Section → Grain → ℕ → ℕ → ℕ
 B s p H r = up (base s p H r)
 
 -- p is at most q, as a test

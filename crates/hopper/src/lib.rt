@@ -2,6 +2,7 @@
 ghost use mathlib.Core.Path.{_≡_};
 ghost use Prim.Native.Nat.{_+_, _*_, _^_, _<_, _≤_};
 ghost use Rattle.fraction.specs.Fraction.{_⊘_, up};
+ghost use Rattle.janssen.specs.Filling.{grain-of};
 ghost use Rattle.janssen.specs.program.Range.{InRange};
 ghost use Rattle.hopper.specs.Hopper.{B, n3, P-n, P-t};
 use fraction::Quotient;
@@ -42,8 +43,8 @@ fn base_of_sides(a: u64, b: u64, stored: u64, height: u64, run: u64) -> u64
 
 // B, Pa, from the hopper's height and run, mm.
 pub fn hopper_base(section: Section, product: Product, height: u64, run: u64) -> u64
-    requires { ⌜ (InRange section product) × (height ≤ 25000) × (0 < run) × (run ≤ 25000) ⌝ }
-    ensures { λ r. ⌜ (r ≡ B section product height run) × (r ≤ 2587500) ⌝ }
+    requires { ⌜ (InRange section (grain-of product)) × (height ≤ 25000) × (0 < run) × (run ≤ 25000) ⌝ }
+    ensures { λ r. ⌜ (r ≡ B section (grain-of product) height run) × (r ≤ 2587500) ⌝ }
 {
     let a = janssen::side_a(section);
     let b = janssen::side_b(section);

@@ -14,18 +14,17 @@ use Rattle.exponential.specs.program.Lower.{lower}
 use Rattle.exponential.proofs.Terms.{S-positive}
 use Rattle.exponential.proofs.LowerLaws.{Reaches, lower-below, lower-reaches, lower-falls, lower-zero, lower-le, below-anti}
 use Rattle.janssen.specs.declared.Section.{Section}
-use Rattle.janssen.specs.declared.Product.{Product}
 use Rattle.janssen.specs.Section.{R}
-use Rattle.janssen.specs.Filling.{Kind, factors, q, z0, P, γR, Ks, μ}
+use Rattle.janssen.specs.Filling.{Grain, Kind, factors, q, z0, P, γR, Ks, μ}
 use Rattle.janssen.specs.Filling.Kind.{horizontal, vertical, wall-friction}
 use Rattle.janssen.specs.Band.{FillingBand}
 use Rattle.janssen.specs.program.Range.{InRange, InDepth}
-use Rattle.janssen.specs.program.Pressure.{step, limit, decay, pressure, filling}
+use Rattle.janssen.specs.program.Pressure.{step, limit, decay-by, decay, pressure, filling-by, filling}
 use Rattle.janssen.proofs.Rounding.{rounded-above, rounded-close}
 use Rattle.janssen.proofs.Geometry.{q-bottom, q-top, q-bottom-pos, q-pos, q-is, q-small, P-pos, P-small, P-most, most, R-pos}
 use Rattle.janssen.proofs.Argument.{argument-above, argument-close, argument-small, argument-rises}
 
-module _ (k : Kind) (s : Section) (p : Product) (i : InRange s p) where
+module _ (k : Kind) (s : Section) (p : Grain) (i : InRange s p) where
   abbrev a₁ : ℕ
   a₁ = q (factors k) s p 1 .top
 
@@ -65,7 +64,7 @@ module _ (k : Kind) (s : Section) (p : Product) (i : InRange s p) where
     Q-small = argument-small a₁ b₁ z (step (factors k) s p) (q-pos s p i k 1) step-close (d .wall) q-under
 
     pub decay-below : Below (decay (step (factors k) s p) z) (q (factors k) s p z)
-    unfolding decay
+    unfolding decay-by
     decay-below =
         below-anti (lower Q)
         (record {
@@ -78,7 +77,7 @@ module _ (k : Kind) (s : Section) (p : Product) (i : InRange s p) where
         (lower-below Q Q-small)
 
     pub decay-reaches : Reaches (decay (step (factors k) s p) z + 512) (q (factors k) s p z)
-    unfolding decay
+    unfolding decay-by
     decay-reaches =
         let e = ap (λ (x : ℕ). Q * x) (q-scales z .1) in
         lower-reaches Q Q-small (q (factors k) s p z .top) (q (factors k) s p z .bottom) (q-pos s p i k z)
@@ -86,26 +85,26 @@ module _ (k : Kind) (s : Section) (p : Product) (i : InRange s p) where
         (omega (arith, q-scales z, argument-close a₁ b₁ z (step (factors k) s p) (q-pos s p i k 1) step-close (d .wall)))
 
     pub decay-most : decay (step (factors k) s p) z ≤ 2 ^ 40
-    unfolding decay
+    unfolding decay-by
     decay-most = lower-le Q Q-small
 
 pub decay-surface : (step : ℕ) → decay step 0 ≡ 2 ^ 40
-unfolding decay
+unfolding decay-by
 decay-surface step =
     let e : 0 * step ≡ 0 = omega arith in
     ap (λ (x : ℕ). lower (up (x ⊘ 2 ^ 22))) e ∙ ap lower (up-zero (2 ^ 22) (omega arith)) ∙ lower-zero
 
-pub filling-surface : (k : Kind) (s : Section) (p : Product) → filling k s p 0 ≡ 0
-unfolding filling pressure
+pub filling-surface : (k : Kind) (s : Section) (p : Grain) → filling k s p 0 ≡ 0
+unfolding filling-by pressure
 filling-surface k s p =
     let e : limit k s p * (2 ^ 40 - decay (step (factors k) s p) 0) ≡ 0 =
     ap (λ (x : ℕ). limit k s p * (2 ^ 40 - x)) (decay-surface (step (factors k) s p)) ∙ omega arith in
     ap (λ (x : ℕ). up (x ⊘ 2 ^ 51)) e ∙ up-zero (2 ^ 51) (omega arith)
 
 -- inside the band of 65/64 Pa
-pub filling-band : (k : Kind) (s : Section) (p : Product) (z : ℕ) → InRange s p → InDepth s z →
+pub filling-band : (k : Kind) (s : Section) (p : Grain) (z : ℕ) → InRange s p → InDepth s z →
     FillingBand (65 ⊘ 64) k s p z (filling k s p z)
-unfolding filling pressure limit
+unfolding filling-by pressure limit
 filling-band k s p z i d =
     let E : ℕ = decay (step (factors k) s p) z in
     let r = decay-reaches k s p i z d in
@@ -128,7 +127,7 @@ filling-band k s p z i d =
     }
 
 -- a wider band holds too
-pub filling-wider : {w w' : Fraction} {k : Kind} {s : Section} {p : Product} {z pressure : ℕ} → w ⪯ w' → InRange s p →
+pub filling-wider : {w w' : Fraction} {k : Kind} {s : Section} {p : Grain} {z pressure : ℕ} → w ⪯ w' → InRange s p →
     FillingBand w k s p z pressure → FillingBand w' k s p z pressure
 filling-wider {w} {w'} {k} {s} {p} {z} h i b = record {
   above = b .above;
@@ -143,7 +142,7 @@ filling-wider {w} {w'} {k} {s} {p} {z} h i b = record {
   surface = b .surface;
 }
 
-pub filling-band-two : (k : Kind) (s : Section) (p : Product) (z : ℕ) → InRange s p → InDepth s z →
+pub filling-band-two : (k : Kind) (s : Section) (p : Grain) (z : ℕ) → InRange s p → InDepth s z →
     FillingBand (whole 2) k s p z (filling k s p z)
 filling-band-two k s p z i d =
     filling-wider (record { left = omega arith; right = omega arith; order = omega arith }) i (filling-band k s p z i d)
@@ -160,21 +159,21 @@ pressure-mono L L' E E' hL hE =
     })
 
 -- a greater depth never has the smaller pressure
-pub filling-rises : (k : Kind) (s : Section) (p : Product) (z z' : ℕ) → InRange s p → InDepth s z' → z ≤ z' →
+pub filling-rises : (k : Kind) (s : Section) (p : Grain) (z z' : ℕ) → InRange s p → InDepth s z' → z ≤ z' →
     filling k s p z ≤ filling k s p z'
-unfolding filling decay
+unfolding filling-by decay-by
 filling-rises k s p z z' i d h =
     pressure-mono (limit k s p) (limit k s p) _ _ (omega arith)
     (lower-falls _ _ (argument-rises z z' (step (factors k) s p) h) (Q-small k s p i z' d))
 
 -- bounds: what each number can be at most
-pub limit-most : (k : Kind) (s : Section) (p : Product) → InRange s p → limit k s p ≤ most k * 2 ^ 11
+pub limit-most : (k : Kind) (s : Section) (p : Grain) → InRange s p → limit k s p ≤ most k * 2 ^ 11
 unfolding limit
 limit-most k s p i =
     up-le (P k s p .top * 2 ^ 11) (P k s p .bottom * 1) (most k * 2 ^ 11) (omega (arith, P-pos s p i k)) (omega (arith, P-most s p i k))
 
 -- a heavier product, otherwise alike, never has the smaller pressure: what C-23 asks rests on this
-module _ (s : Section) (p p' : Product) (i : InRange s p) (i' : InRange s p') (Ks-same : p .ratio ≡ p' .ratio) (μ-same : p .friction ≡ p' .friction)
+module _ (s : Section) (p p' : Grain) (i : InRange s p) (i' : InRange s p') (Ks-same : p .ratio ≡ p' .ratio) (μ-same : p .friction ≡ p' .friction)
     (heavier : p .weight ≤ p' .weight) where
   γR-mono : γR s p ⪯ γR s p'
   unfolding γR
@@ -205,5 +204,5 @@ module _ (s : Section) (p p' : Product) (i : InRange s p) (i' : InRange s p') (K
   limit-mono k = up-mono (⊗-mono (P-mono k) (⪯-refl (whole (2 ^ 11)) (omega arith)))
 
   pub filling-heavier : (k : Kind) (z : ℕ) → filling k s p z ≤ filling k s p' z
-  unfolding filling
+  unfolding filling-by
   filling-heavier k z = rw (step-same k) (pressure-mono (limit k s p) (limit k s p') _ _ (limit-mono k) (omega arith))

@@ -5,9 +5,8 @@ use mathlib.Core.Path.{_≡_}
 use native.Mathlib.Omega.{arith}
 use native.Mathlib.Nat.{le-trans, mul-le-mul, mul-le-mul-left, mul-le-mul-right, mul-pos, min-le-left, min-le-right}
 use Rattle.janssen.specs.declared.Section.{Section}
-use Rattle.janssen.specs.declared.Product.{Product}
 use Rattle.janssen.specs.Section.{side-a, side-b, d-c, R}
-use Rattle.janssen.specs.Filling.{Kind, factors, Ks, μ, z0, q, γR, P}
+use Rattle.janssen.specs.Filling.{Grain, Kind, factors, Ks, μ, z0, q, γR, P}
 use Rattle.janssen.specs.Filling.Kind.{horizontal, vertical, wall-friction}
 use Rattle.janssen.specs.program.Range.{InRange, InDepth}
 
@@ -18,7 +17,7 @@ row vertical = 324
 row wall-friction = 529
 
 -- q = z·row·Ks·μ·(a + b) / (2,000,000·a·b), with Ks and μ in hundredths and lengths in mm
-abbrev pub q-top : Kind → Section → Product → ℕ
+abbrev pub q-top : Kind → Section → Grain → ℕ
 q-top k s p = row k * (p .ratio * p .friction) * (side-a s + side-b s)
 
 abbrev pub q-bottom : Section → ℕ
@@ -35,15 +34,15 @@ P-over horizontal = 18
 P-over vertical = 81
 P-over wall-friction = 2000
 
-abbrev pub P-by : Kind → Product → ℕ
+abbrev pub P-by : Kind → Grain → ℕ
 P-by horizontal p = p .friction
 P-by vertical p = p .ratio * p .friction
 P-by wall-friction p = 1
 
-abbrev pub P-top : Kind → Section → Product → ℕ
+abbrev pub P-top : Kind → Section → Grain → ℕ
 P-top k s p = P-times k * (p .weight * (side-a s * side-b s))
 
-abbrev pub P-bottom : Kind → Section → Product → ℕ
+abbrev pub P-bottom : Kind → Section → Grain → ℕ
 P-bottom k s p = P-over k * ((side-a s + side-b s) * P-by k p)
 
 -- the most that each pressure can be, Pa
@@ -62,7 +61,7 @@ row-most horizontal = omega arith
 row-most vertical = omega arith
 row-most wall-friction = omega arith
 
-module _ (s : Section) (p : Product) (i : InRange s p) where
+module _ (s : Section) (p : Grain) (i : InRange s p) where
   a-pos : 0 < side-a s
   a-pos = omega (arith, i .a-in .least)
 

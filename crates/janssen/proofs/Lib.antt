@@ -9,4 +9,3 @@ pub mod WallLoadLaws
 pub mod PreparedNumbers
 pub mod Ready
 pub mod WallLoadOrder
-pub mod WithFactor

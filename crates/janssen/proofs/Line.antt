@@ -10,8 +10,7 @@ use Rattle.exponential.specs.Series.{S}
 use Rattle.exponential.proofs.Terms.{S-positive}
 use Rattle.exponential.proofs.SeriesLaws.{S-one}
 use Rattle.janssen.specs.declared.Section.{Section}
-use Rattle.janssen.specs.declared.Product.{Product}
-use Rattle.janssen.specs.Filling.{factors, q, P, γR, z0, Ks, μ}
+use Rattle.janssen.specs.Filling.{Grain, factors, q, P, γR, z0, Ks, μ}
 use Rattle.janssen.specs.Filling.Kind.{horizontal}
 use Rattle.janssen.specs.program.Range.{InRange, InDepth}
 use Rattle.janssen.specs.program.Pressure.{filling}
@@ -45,7 +44,7 @@ module _ (P q S w : Fraction) (hP : 0 < P .bottom) (hq : 0 < q .bottom) (hS : 0 
       (⪯-trans close
       (⪯-trans split (⪯-trans (⊕-mono (⊗-mono (⪯-refl P hP) growth) (⪯-refl (w ⊗ S) (mul-pos hw hS))) regroup)))))
 
-module _ (s : Section) (p : Product) (i : InRange s p) where
+module _ (s : Section) (p : Grain) (i : InRange s p) where
   -- P·q = γ·1.15·Ks·z, z in mm and Ks in hundredths
   line-is : (z : ℕ) → (P horizontal s p .top * q (factors horizontal) s p z .top) * 10000000
       ≡ 115 * (p .weight * (p .ratio * z)) * (P horizontal s p .bottom * q (factors horizontal) s p z .bottom)

@@ -6,10 +6,9 @@ use native.Mathlib.Nat.{mul-le-mul, mul-div-mul-right, mul-comm}
 use Rattle.fraction.specs.Fraction.{_⊘_, up}
 use Rattle.fraction.proofs.Up.{up-same}
 use Rattle.janssen.specs.declared.Section.{Section}
-use Rattle.janssen.specs.declared.Product.{Product}
 use Rattle.janssen.specs.declared.Prepared.{Prepared}
 use Rattle.janssen.specs.Section.{side-a, side-b}
-use Rattle.janssen.specs.Filling.{Kind, factors, q, z0, P}
+use Rattle.janssen.specs.Filling.{Grain, Kind, factors, q, z0, P}
 use Rattle.janssen.specs.Filling.Kind.{horizontal, vertical, wall-friction}
 use Rattle.janssen.specs.program.Range.{Within, InRange}
 use Rattle.janssen.specs.program.Pressure.{step, limit, z0-scaled}
@@ -20,7 +19,7 @@ down-equal : (a b c d : ℕ) → 0 < b → 0 < d → a * d ≡ c * b → a / b �
 down-equal a b c d hb hd e =
     sym (mul-div-mul-right a b hd) ∙ ap (λ (x : ℕ). x / (b * d)) e ∙ ap (λ (x : ℕ). c * b / x) (mul-comm b d) ∙ mul-div-mul-right c d hb
 
-module _ (s : Section) (p : Product) (i : InRange s p) where
+module _ (s : Section) (p : Grain) (i : InRange s p) where
   pub step-is : (k : Kind) → step (factors k) s p ≡ up ((q-top k s p * 2048 ^ 5) ⊘ q-bottom s)
   unfolding step
   step-is k =
@@ -80,12 +79,12 @@ z0-sizes {both} {a} {b} (hc, ha, hb) =
     (s .1, s .3, mul-le-mul {n₁ = 529} {m₁ = 1000} (omega (arith, hc .least)) l)
 
 -- Ks·μ, in 1/10,000
-pub both-within : {s : Section} {p : Product} → InRange s p → (1 ≤ p .ratio * p .friction) × (p .ratio * p .friction ≤ 10000)
+pub both-within : {s : Section} {p : Grain} → InRange s p → (1 ≤ p .ratio * p .friction) × (p .ratio * p .friction ≤ 10000)
 both-within i =
     (omega (arith, mul-le-mul (i .Ks-in .least) (i .μ-in .least)), omega (arith, mul-le-mul (i .Ks-in .most) (i .μ-in .most)))
 
 -- the numbers from the calls are those of the definitions
-pub prepared-are : (s : Section) (p : Product) → InRange s p → (a b s₁ l₁ s₂ l₂ s₃ l₃ z₀ : ℕ) → a ≡ side-a s → b ≡ side-b s →
+pub prepared-are : (s : Section) (p : Grain) → InRange s p → (a b s₁ l₁ s₂ l₂ s₃ l₃ z₀ : ℕ) → a ≡ side-a s → b ≡ side-b s →
     s₁ ≡ up ((414 * (p .ratio * p .friction) * (a + b) * 2048 ^ 5) ⊘ (2000000 * (a * b))) →
     l₁ ≡ up ((1 * (p .weight * (a * b)) * 2048 ^ 1) ⊘ (18 * ((a + b) * p .friction))) →
     s₂ ≡ up ((324 * (p .ratio * p .friction) * (a + b) * 2048 ^ 5) ⊘ (2000000 * (a * b))) →

@@ -6,8 +6,7 @@ use native.Mathlib.Nat.{le-of-lt, mul-le-mul, div-lt-iff-lt-mul}
 use Rattle.fraction.specs.Fraction.{_⊘_, up}
 use Rattle.fraction.proofs.Up.{up-ge, up-le}
 use Rattle.janssen.specs.declared.Section.{Section}
-use Rattle.janssen.specs.declared.Product.{Product}
-use Rattle.janssen.specs.Filling.{Kind, factors}
+use Rattle.janssen.specs.Filling.{Grain, Kind, factors}
 use Rattle.janssen.specs.Filling.Kind.{horizontal, vertical, wall-friction}
 use Rattle.janssen.specs.program.Range.{InRange, InDepth}
 use Rattle.janssen.specs.program.Pressure.{step}
@@ -27,7 +26,7 @@ load-product L G hL hG = omega (arith, mul-le-mul (le-of-lt hL) hG)
 pub load-fits : (L G : ℕ) → L < 2 ^ 30 → G ≤ 2 ^ 28 → up ((L * G) ⊘ 4194304000) ≤ 2 ^ 27
 load-fits L G hL hG = up-le (L * G) 4194304000 (2 ^ 27) (omega arith) (omega (arith, load-product L G hL hG))
 
-module _ (s : Section) (p : Product) (z : ℕ) (i : InRange s p) (d : InDepth s z) where
+module _ (s : Section) (p : Grain) (z : ℕ) (i : InRange s p) (d : InDepth s z) where
   pub curve-reaches : (k : Kind) → Reaches (curve k s p) z
   curve-reaches k =
       let Q = Q-small k s p i z d in

@@ -14,13 +14,12 @@ use Rattle.exponential.proofs.Terms.{S-positive}
 use Rattle.exponential.proofs.SeriesLaws.{S-one}
 use Rattle.exponential.proofs.LowerLaws.{Reaches}
 use Rattle.janssen.specs.declared.Section.{Section}
-use Rattle.janssen.specs.declared.Product.{Product}
 use Rattle.janssen.specs.Section.{metres}
-use Rattle.janssen.specs.Filling.{q, z0, P, γR, D, N, factors}
+use Rattle.janssen.specs.Filling.{Grain, q, z0, P, γR, D, N, factors}
 use Rattle.janssen.specs.Filling.Kind.{wall-friction}
 use Rattle.janssen.specs.Band.{WallLoadBand}
 use Rattle.janssen.specs.program.Range.{InRange, InDepth}
-use Rattle.janssen.specs.program.Pressure.{step, limit, decay, z0-scaled, least-gone, loaded-depth, load, wall-load}
+use Rattle.janssen.specs.program.Pressure.{step, limit, decay, z0-scaled, least-gone, loaded-depth, load, wall-load-by, wall-load}
 use Rattle.janssen.proofs.Geometry.{q-pos, γR-pos, γR-most, z0-pos, D-most}
 use Rattle.janssen.proofs.Growth.{S-growth}
 use Rattle.janssen.proofs.FillingLaws.{decay-below, decay-reaches, decay-most}
@@ -57,7 +56,7 @@ rest-reaches E q hq hE (n, r) = go (decLe (E + 512) (2 ^ 40))
         let o = S-one 0 q hq in
         rw e (0, record { left = omega arith; right = mul-pos (omega arith) (o .right); order = omega (arith, o .order) })
 
-module _ (s : Section) (p : Product) (z : ℕ) (i : InRange s p) (d : InDepth s z) where
+module _ (s : Section) (p : Grain) (z : ℕ) (i : InRange s p) (d : InDepth s z) where
   abbrev E : ℕ
   E = decay (step (factors wall-friction) s p) z
 
@@ -147,18 +146,18 @@ module _ (s : Section) (p : Product) (z : ℕ) (i : InRange s p) (d : InDepth s 
 
   -- the load with its parts opened
   opened : wall-load s p z ≡ w
-  unfolding wall-load load loaded-depth
+  unfolding wall-load-by load loaded-depth
   opened = refl
 
-pub wall-load-surface : (s : Section) (p : Product) → wall-load s p 0 ≡ 0
-unfolding wall-load load loaded-depth
+pub wall-load-surface : (s : Section) (p : Grain) → wall-load s p 0 ≡ 0
+unfolding wall-load-by load loaded-depth
 wall-load-surface s p =
     let L : ℕ = limit wall-friction s p in
     let e : 0 * 2 ^ 11 - z0-scaled s p * least-gone (decay (step (factors wall-friction) s p) 0) / 2 ^ 40 ≡ 0 = omega arith in
     ap (λ (x : ℕ). up ((L * x) ⊘ 4194304000)) e ∙ ap (λ (x : ℕ). up (x ⊘ 4194304000)) (omega arith) ∙ up-zero 4194304000 (omega arith)
 
 -- inside the band of 2 N/m
-pub wall-load-band : (s : Section) (p : Product) (z : ℕ) → InRange s p → InDepth s z → WallLoadBand s p z (wall-load s p z)
+pub wall-load-band : (s : Section) (p : Grain) (z : ℕ) → InRange s p → InDepth s z → WallLoadBand s p z (wall-load s p z)
 wall-load-band s p z i d =
     rw (opened s p z i d)
     (record {

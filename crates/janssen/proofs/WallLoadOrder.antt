@@ -15,11 +15,10 @@ use Rattle.exponential.specs.program.Lower.{lower}
 use Rattle.exponential.proofs.LowerLaws.{Reaches, lower-falls, lower-le}
 use Rattle.exponential.proofs.LowerDrop.{lower-anywhere, lower-first, lower-drop, lower-line, lower-once, lower-twice}
 use Rattle.janssen.specs.declared.Section.{Section}
-use Rattle.janssen.specs.declared.Product.{Product}
-use Rattle.janssen.specs.Filling.{factors}
+use Rattle.janssen.specs.Filling.{Grain, factors}
 use Rattle.janssen.specs.Filling.Kind.{wall-friction}
 use Rattle.janssen.specs.program.Range.{InRange, InDepth}
-use Rattle.janssen.specs.program.Pressure.{step, limit, decay, z0-scaled, least-gone, loaded-depth, load, wall-load}
+use Rattle.janssen.specs.program.Pressure.{step, limit, decay-by, z0-scaled, least-gone, loaded-depth, load, wall-load-by, wall-load}
 use Rattle.janssen.proofs.Geometry.{q-top, q-bottom, q-top-pos, q-bottom-pos, q-least, q-most, P-top, P-bottom, γR-top-pos, P-bottom-pos}
 use Rattle.janssen.proofs.Argument.{argument-rises}
 use Rattle.janssen.proofs.FillingLaws.{Q-small, limit-most}
@@ -150,7 +149,7 @@ products A B T Z hB above close below near least most = record {
   step-most = le-of-mul-le-mul-right {k = B} (omega arith) hB;
 }
 
-module _ (s : Section) (p : Product) (i : InRange s p) where
+module _ (s : Section) (p : Grain) (i : InRange s p) where
   abbrev A : ℕ
   A = q-top wall-friction s p
 
@@ -176,7 +175,7 @@ module _ (s : Section) (p : Product) (i : InRange s p) where
 
   -- one mm deeper
   wall-load-next : (z : ℕ) → InDepth s (z + 1) → wall-load s p z ≤ wall-load s p (z + 1)
-  unfolding wall-load decay
+  unfolding wall-load-by decay-by
   wall-load-next z d =
       load-next (step (factors wall-friction) s p) (z0-scaled s p) scaled z (d .wall) (Q-small wall-friction s p i (z + 1) d)
       (limit wall-friction s p) limit-positive (limit-most wall-friction s p i)
@@ -190,6 +189,6 @@ module _ (s : Section) (p : Product) (i : InRange s p) where
       (rw e (wall-load-next (z + n) (rw e at d)))
 
 -- a greater depth never has the smaller load
-pub wall-load-rises : (s : Section) (p : Product) (z z' : ℕ) → InRange s p → InDepth s z' → z ≤ z' → wall-load s p z ≤ wall-load s p z'
+pub wall-load-rises : (s : Section) (p : Grain) (z z' : ℕ) → InRange s p → InDepth s z' → z ≤ z' → wall-load s p z ≤ wall-load s p z'
 wall-load-rises s p z z' i d h =
     let e : z + (z' - z) ≡ z' = omega arith in rw e at (wall-load-deeper s p i (z' - z) z (rw e d))

@@ -5,6 +5,15 @@ use Rattle.janssen.specs.declared.Section.{Section}
 use Rattle.janssen.specs.declared.Product.{Product}
 use Rattle.janssen.specs.Section.{metres, R}
 
+-- what Janssen's formula takes from the product: γ in N/m³, Ks and μ in hundredths, and not C0
+pub record Grain : Type 0 where
+  pub weight : ℕ
+  pub ratio : ℕ
+  pub friction : ℕ
+
+abbrev pub grain-of : Product → Grain
+grain-of p = record { weight = p .weight; ratio = p .ratio; friction = p .friction }
+
 -- the filling pressures p_hf, p_vf and p_wf
 pub data Kind : Type 0 where
   horizontal vertical wall-friction : Kind
@@ -32,34 +41,34 @@ abbrev pub hundredths : ℕ → Fraction
 hundredths n = n ⊘ 100
 
 -- Ks and μ, factored as in the row
-unfoldable pub Ks : Factors → Product → Fraction
+unfoldable pub Ks : Factors → Grain → Fraction
 Ks f p = f .Ks-times ⊗ hundredths (p .ratio)
 
-unfoldable pub μ : Factors → Product → Fraction
+unfoldable pub μ : Factors → Grain → Fraction
 μ f p = f .μ-times ⊗ hundredths (p .friction)
 
 -- z0 = R / (Ks·μ), m (5.6)
-unfoldable pub z0 : Factors → Section → Product → Fraction
+unfoldable pub z0 : Factors → Section → Grain → Fraction
 z0 f s p = R s ÷ (Ks f p ⊗ μ f p)
 
 -- q = z / z0 (5.5)
-unfoldable pub q : Factors → Section → Product → ℕ → Fraction
+unfoldable pub q : Factors → Section → Grain → ℕ → Fraction
 q f s p z = metres z ÷ z0 f s p
 
 -- γR, Pa
-unfoldable pub γR : Section → Product → Fraction
+unfoldable pub γR : Section → Grain → Fraction
 γR s p = whole (p .weight) ⊗ R s
 
 -- P, the factor before the bracket, Pa: γR/μ (5.3), γR/(μ·Ks) (5.4), γR (5.2)
-unfoldable pub P : Kind → Section → Product → Fraction
+unfoldable pub P : Kind → Section → Grain → Fraction
 P horizontal s p = γR s p ÷ μ (factors horizontal) p
 P vertical s p = γR s p ÷ (μ (factors vertical) p ⊗ Ks (factors vertical) p)
 P wall-friction s p = γR s p
 
 -- D = γR·z0, N/m
-unfoldable pub D : Section → Product → Fraction
+unfoldable pub D : Section → Grain → Fraction
 D s p = γR s p ⊗ z0 (factors wall-friction) s p
 
 -- N = γR·z, N/m
-unfoldable pub N : Section → Product → ℕ → Fraction
+unfoldable pub N : Section → Grain → ℕ → Fraction
 N s p z = γR s p ⊗ metres z

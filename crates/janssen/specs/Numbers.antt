@@ -1,11 +1,10 @@
--- The numbers that document 01 leaves free: each is set by section, product and depth alone. What holds of them is in `Band`.
+-- The numbers that document 01 leaves free: each is set by section, grain and depth alone. What holds of them is in `Band`.
 use Prim.Native.Nat.{ℕ}
 use Rattle.janssen.specs.declared.Section.{Section}
-use Rattle.janssen.specs.declared.Product.{Product}
-use Rattle.janssen.specs.Filling.{Kind}
+use Rattle.janssen.specs.Filling.{Grain, Kind}
 
 pub record FillingNumbers : Type 0 where
   -- p_hf, p_vf and p_wf at a depth in mm, Pa
-  pub filling-at : Kind → Section → Product → ℕ → ℕ
+  pub filling-at : Kind → Section → Grain → ℕ → ℕ
   -- P_w at a depth in mm, N/m
-  pub wall-load-at : Section → Product → ℕ → ℕ
+  pub wall-load-at : Section → Grain → ℕ → ℕ

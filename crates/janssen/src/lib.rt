@@ -4,6 +4,7 @@ ghost use Prim.Native.Nat.{_+_, _-_, _*_, _/_, _^_, _<_, _≤_};
 ghost use Rattle.fraction.specs.Fraction.{_⊘_, up};
 ghost use Rattle.exponential.specs.program.Table.{table};
 ghost use Rattle.janssen.specs.Section.{side-a, side-b, d-c};
+ghost use Rattle.janssen.specs.Filling.{grain-of};
 ghost use Rattle.janssen.specs.program.Range.{Within, InRange};
 ghost use Rattle.janssen.specs.program.Pressure.{decay, pressure, loaded-depth, load};
 ghost use Rattle.janssen.specs.program.Prepare.{prepared-for, pressure-on, loads-on, Reaches, AllReach};
@@ -114,8 +115,8 @@ fn z0_of(both: u64, a: u64, b: u64) -> u64
 }
 
 pub fn prepare(section: Section, product: Product) -> Prepared
-    requires { ⌜ InRange section product ⌝ }
-    ensures { λ r. ⌜ r ≡ prepared-for section product ⌝ }
+    requires { ⌜ InRange section (grain-of product) ⌝ }
+    ensures { λ r. ⌜ r ≡ prepared-for section (grain-of product) ⌝ }
 {
     let a = side_a(section);
     let b = side_b(section);

@@ -10,12 +10,11 @@ use lib.ListN.{getD, getD-replicate}
 use Rattle.fraction.specs.Fraction.{Fraction}
 use Rattle.fraction.proofs.Up.{up-le}
 use Rattle.janssen.specs.declared.Section.{Section}
-use Rattle.janssen.specs.declared.Product.{Product}
 use Rattle.janssen.specs.Section.{d-c}
-use Rattle.janssen.specs.Filling.{Kind, factors}
+use Rattle.janssen.specs.Filling.{Grain, grain-of, Kind, factors}
 use Rattle.janssen.specs.Filling.Kind.{horizontal, vertical, wall-friction}
 use Rattle.janssen.specs.program.Range.{InRange}
-use Rattle.janssen.specs.program.Pressure.{computed, filling, pressure, limit, decay, step, wall-load, load, loaded-depth, z0-scaled, least-gone}
+use Rattle.janssen.specs.program.Pressure.{computed, filling-by, filling, pressure, limit, decay, step, wall-load-by, wall-load, load, loaded-depth, z0-scaled, least-gone}
 use Rattle.janssen.proofs.Geometry.{most}
 use Rattle.janssen.proofs.FillingLaws.{limit-most}
 use Rattle.janssen.proofs.Line.{horizontal-line}
@@ -32,16 +31,16 @@ use Rattle.loads.specs.program.Basis.{Reached, Fits}
 use Rattle.loads.proofs.LoadLaws.{bottom-flat, bottom-hopper, at-quarter, C-h-moderate, C-w-moderate, dc-positive}
 
 -- ---- filling
-module _ (s : Section) (p : Product) (i : InRange s p) where
+module _ (s : Section) (p : Grain) (i : InRange s p) where
   filling-most : (k : Kind) (z : ℕ) → filling k s p z ≤ most k
-  unfolding filling pressure
+  unfolding filling-by pressure
   filling-most k z =
       let E : ℕ = decay (step (factors k) s p) z in
       up-le (limit k s p * (2 ^ 40 - E)) (2 ^ 51) (most k) (omega arith)
       (omega (arith, mul-le-mul {m₁ = 2 ^ 40 - E} {m₂ = 2 ^ 40} (limit-most k s p i) (omega arith)))
 
   wall-load-most : (z : ℕ) → wall-load s p z ≤ 375 * z
-  unfolding wall-load load loaded-depth
+  unfolding wall-load-by load loaded-depth
   wall-load-most z =
       let E : ℕ = decay (step (factors wall-friction) s p) z in
       let G : ℕ = z * 2 ^ 11 - z0-scaled s p * least-gone E / 2 ^ 40 in
@@ -66,30 +65,30 @@ n3-most μ b = found _ (4 * b) .within
 
 module _ (c : Silo) (fits : Fits c) where
   abbrev filled : Kind → ℕ → ℕ
-  filled k depth = filling k (c .section) (c .product) (load-depth c depth)
+  filled k depth = filling k (c .section) (grain-of (c .product)) (load-depth c depth)
 
   p-he-most : (depth : ℕ) → number computed c p-he depth ≤ 8333334
   p-he-most depth =
       omega (
         arith,
         magnified-most (C-h c) (C-h-moderate c fits .proper) (C-h-moderate c fits .most) (filled horizontal depth),
-        filling-most (c .section) (c .product) (fits .range) horizontal (load-depth c depth),
+        filling-most (c .section) (grain-of (c .product)) (fits .range) horizontal (load-depth c depth),
       )
 
   -- every load of a depth
   pub within-bound : (l : Load) (depth : ℕ) → number computed c l depth ≤ bound l depth
   unfolding load-depth
   within-bound listed-depth depth = omega arith
-  within-bound p-hf depth = filling-most (c .section) (c .product) (fits .range) horizontal (load-depth c depth)
-  within-bound p-wf depth = filling-most (c .section) (c .product) (fits .range) wall-friction (load-depth c depth)
-  within-bound p-vf depth = filling-most (c .section) (c .product) (fits .range) vertical (load-depth c depth)
-  within-bound P-w depth = omega (arith, wall-load-most (c .section) (c .product) (fits .range) (load-depth c depth))
+  within-bound p-hf depth = filling-most (c .section) (grain-of (c .product)) (fits .range) horizontal (load-depth c depth)
+  within-bound p-wf depth = filling-most (c .section) (grain-of (c .product)) (fits .range) wall-friction (load-depth c depth)
+  within-bound p-vf depth = filling-most (c .section) (grain-of (c .product)) (fits .range) vertical (load-depth c depth)
+  within-bound P-w depth = omega (arith, wall-load-most (c .section) (grain-of (c .product)) (fits .range) (load-depth c depth))
   within-bound p-he depth = p-he-most depth
   within-bound p-we depth =
       omega (
         arith,
         magnified-most (C-w c) (C-w-moderate c fits .proper) (C-w-moderate c fits .most) (filled wall-friction depth),
-        filling-most (c .section) (c .product) (fits .range) wall-friction (load-depth c depth),
+        filling-most (c .section) (grain-of (c .product)) (fits .range) wall-friction (load-depth c depth),
       )
   within-bound p-p depth =
       omega (
@@ -105,7 +104,7 @@ module _ (c : Silo) (fits : Fits c) where
       let z : ℕ = load-depth c depth in
       let i = fits .range in
       let p-hf-most : filled horizontal depth ≤ 2553002 =
-      omega (arith, horizontal-line (c .section) (c .product) i z r, mul-le-mul (i .γ-in .most) (mul-le-mul (i .Ks-in .most) h)) in
+      omega (arith, horizontal-line (c .section) (grain-of (c .product)) i z r, mul-le-mul (i .γ-in .most) (mul-le-mul (i .Ks-in .most) h)) in
       let p-he-small = magnified-most (C-h c) (C-h-moderate c fits .proper) (C-h-moderate c fits .most) (filled horizontal depth) in
       omega (
         arith,
@@ -119,9 +118,9 @@ module _ (c : Silo) (fits : Fits c) where
   normal-most : (k : ℕ) → 0 < c .run → k ≤ 4 → normal-number computed c k ≤ 2 ^ 26
   normal-most k hr hk =
       let μ = c .product .friction in
-      let b = B (c .section) (c .product) (c .height) (c .run) in
+      let b = B (c .section) (grain-of (c .product)) (c .height) (c .run) in
       P-n-range (c .height) (c .run) k (n3 μ b) (number computed c p-vf (c .foot)) hr hk
-      (omega (arith, n3-most μ b, B-range (c .section) (c .product) (c .height) (c .run) (fits .range) hr)) vertical-small
+      (omega (arith, n3-most μ b, B-range (c .section) (grain-of (c .product)) (c .height) (c .run) (fits .range) hr)) vertical-small
 
   friction-most : (k : ℕ) → 0 < c .run → k ≤ 4 → friction-number computed c k ≤ 2 ^ 27
   friction-most k hr hk = P-t-range (c .product .friction) (normal-number computed c k) (fits .range .μ-in .most) (normal-most k hr hk)

@@ -9,7 +9,7 @@ use lib.ListN.{getD, replicate, getD-replicate}
 use Rattle.fraction.specs.Fraction.{whole, _⪯_}
 use Rattle.fraction.proofs.Order.{⪯-refl}
 use Rattle.janssen.specs.Section.{d-c}
-use Rattle.janssen.specs.Filling.{Kind, hundredths, factors, q, P}
+use Rattle.janssen.specs.Filling.{Kind, grain-of, hundredths, factors, q, P}
 use Rattle.janssen.specs.Filling.Kind.{horizontal, vertical, wall-friction}
 use Rattle.janssen.specs.Numbers.{FillingNumbers}
 use Rattle.janssen.specs.program.Pressure.{filling, wall-load, computed}
@@ -63,11 +63,11 @@ load-depth-rises c depth depth' h = omega arith
 -- a load of filling in two silos with the same section and product: no smaller at a greater depth below the surface
 module _ (c c' : Silo) (same-section : c .section ≡ c' .section) (same-product : c .product ≡ c' .product) (fits : Fits c') where
   pressure-more : (k : Kind) (u v : ℕ) → InDepth (c' .section) v → u ≤ v
-      → filling k (c .section) (c .product) u ≤ filling k (c' .section) (c' .product) v
-  pressure-more k u v d h = rw (same-section, same-product) (filling-rises k (c' .section) (c' .product) u v (fits .range) d h)
+      → filling k (c .section) (grain-of (c .product)) u ≤ filling k (c' .section) (grain-of (c' .product)) v
+  pressure-more k u v d h = rw (same-section, same-product) (filling-rises k (c' .section) (grain-of (c' .product)) u v (fits .range) d h)
 
-  load-more : (u v : ℕ) → InDepth (c' .section) v → u ≤ v → wall-load (c .section) (c .product) u ≤ wall-load (c' .section) (c' .product) v
-  load-more u v d h = rw (same-section, same-product) (wall-load-rises (c' .section) (c' .product) u v (fits .range) d h)
+  load-more : (u v : ℕ) → InDepth (c' .section) v → u ≤ v → wall-load (c .section) (grain-of (c .product)) u ≤ wall-load (c' .section) (grain-of (c' .product)) v
+  load-more u v d h = rw (same-section, same-product) (wall-load-rises (c' .section) (grain-of (c' .product)) u v (fits .range) d h)
 
   pub filling-more : {l : Load} → OfFilling l → (x y : ℕ) → Reached c' y → load-depth c x ≤ load-depth c' y → number computed c l x ≤ number computed c' l y
   filling-more of-p-hf x y d h = pressure-more horizontal _ _ d h
@@ -77,17 +77,17 @@ module _ (c c' : Silo) (same-section : c .section ≡ c' .section) (same-product
 
 module _ (c : Silo) (fits : Fits c) where
   band-at : (k : Kind) (depth : ℕ) → Reached c depth → InBand k c depth (pressure-at computed c k depth)
-  band-at k depth d = filling-band-two k (c .section) (c .product) (load-depth c depth) (fits .range) d
+  band-at k depth d = filling-band-two k (c .section) (grain-of (c .product)) (load-depth c depth) (fits .range) d
 
   filled-at : (k : Kind) (depth : ℕ) → Reached c depth
-      → Filled (P k (c .section) (c .product)) (q (factors k) (c .section) (c .product) (load-depth c depth)) (pressure-at computed c k depth)
+      → Filled (P k (c .section) (grain-of (c .product))) (q (factors k) (c .section) (grain-of (c .product)) (load-depth c depth)) (pressure-at computed c k depth)
   filled-at k depth d = filled-by-band (band-at k depth d)
 
   pub dc-positive : 0 < d-c (c .section)
-  dc-positive = d-c-positive (c .section) (c .product) (fits .range)
+  dc-positive = d-c-positive (c .section) (grain-of (c .product)) (fits .range)
 
   pub dc-most : d-c (c .section) ≤ 50000
-  dc-most = d-c-most (c .section) (c .product) (fits .range)
+  dc-most = d-c-most (c .section) (grain-of (c .product)) (fits .range)
 
   -- C_h lies between 1 and C0, C_w between 1 and 1.1
   pub C-h-between : (whole 1 ⪯ C-h c) × (C-h c ⪯ hundredths (c .product .factor))
@@ -113,7 +113,7 @@ module _ (c : Silo) (fits : Fits c) where
   holds p-hf depth d = band-at horizontal depth d
   holds p-wf depth d = band-at wall-friction depth d
   holds p-vf depth d = band-at vertical depth d
-  holds P-w depth d = wall-load-band (c .section) (c .product) (load-depth c depth) (fits .range) d
+  holds P-w depth d = wall-load-band (c .section) (grain-of (c .product)) (load-depth c depth) (fits .range) d
   holds p-he depth d = magnified-load-allowance (C-h c) (C-h-moderate .proper) 5 _ (omega (arith, C-h-moderate .most)) (filled-at horizontal depth d)
   holds p-we depth d = magnified-load-allowance (C-w c) (C-w-moderate .proper) 4 _ C-w-most (filled-at wall-friction depth d)
   holds p-p depth d =
@@ -155,11 +155,11 @@ module _ (c : Silo) (fits : Fits c) where
         P-n-holds =
             λ hr k h.
             rw (is k (omega arith), bottom-hopper computed c hr, quarter k h .0)
-            (P-n-allowance (c .section) (c .product) (c .height) (c .run) k x (fits .range) hr h fill);
+            (P-n-allowance (c .section) (grain-of (c .product)) (c .height) (c .run) k x (fits .range) hr h fill);
         P-t-holds =
             λ hr k h.
             rw (is (5 + k) (omega arith), bottom-hopper computed c hr, quarter k h .1)
-            (P-t-allowance (c .section) (c .product) (c .height) (c .run) k x (fits .range) hr h fill);
+            (P-t-allowance (c .section) (grain-of (c .product)) (c .height) (c .run) k x (fits .range) hr h fill);
       }
 
 -- the basis of a silo that fits: its curves reach every depth, d_c leaves room for the patch, and the magnifiers are moderate
@@ -167,7 +167,7 @@ module _ (b : Basis) (sound : Sound b) where
   pub prepared-reaches : (depth : ℕ) {at : ℕ} → at ≡ load-depth (b .silo) depth → Reached (b .silo) depth → AllReach (b .prepared) at
   prepared-reaches depth {at} e d =
       subst (λ (x : Basis). AllReach (x .prepared) at) (sym (sound .right))
-      (rw e (all-reach (b .silo .section) (b .silo .product) (load-depth (b .silo) depth) (sound .fits .range) d))
+      (rw e (all-reach (b .silo .section) (grain-of (b .silo .product)) (load-depth (b .silo) depth) (sound .fits .range) d))
 
   pub shorter-fits : (0 < b .shorter) × (b .shorter ≤ 50000) × (4 * b .silo .eccentricity ≤ b .shorter)
   shorter-fits =

@@ -3,7 +3,7 @@ use Prim.Native.Nat.{ℕ, suc, _+_, _≤_, _<_}
 use mathlib.Core.Path.{_≡_}
 use Rattle.fraction.specs.Fraction.{Fraction, whole}
 use Rattle.janssen.specs.Section.{d-c}
-use Rattle.janssen.specs.Filling.{Kind, factors, q, P}
+use Rattle.janssen.specs.Filling.{Kind, grain-of, factors, q, P}
 use Rattle.janssen.specs.Filling.Kind.{horizontal, vertical, wall-friction}
 use Rattle.janssen.specs.Band.{FillingBand, WallLoadBand}
 use Rattle.allowance.specs.Allowance.{Lower, Allowance}
@@ -16,11 +16,11 @@ use Rattle.loads.specs.Load.Load.{listed-depth, p-hf, p-wf, p-vf, P-w, p
 
 -- a filling pressure lies less than 2 above the exact value
 abbrev pub InBand : Kind → Silo → ℕ → ℕ → Type 0
-InBand k c depth = FillingBand (whole 2) k (c .section) (c .product) (load-depth c depth)
+InBand k c depth = FillingBand (whole 2) k (c .section) (grain-of (c .product)) (load-depth c depth)
 
 -- the lower fractions of the filling pressure of kind k at a depth
 abbrev pub LowerAt : Kind → Silo → ℕ → Fraction → Type 0
-LowerAt k c depth = Lower (P k (c .section) (c .product)) (q (factors k) (c .section) (c .product) (load-depth c depth))
+LowerAt k c depth = Lower (P k (c .section) (grain-of (c .product))) (q (factors k) (c .section) (grain-of (c .product)) (load-depth c depth))
 
 -- p_p unrounded, over a lower fraction of p_hf
 abbrev pub exact-patch : Silo → Fraction → Fraction
@@ -32,14 +32,14 @@ Holds c listed-depth depth n = n ≡ depth
 Holds c p-hf depth n = InBand horizontal c depth n
 Holds c p-wf depth n = InBand wall-friction c depth n
 Holds c p-vf depth n = InBand vertical c depth n
-Holds c P-w depth n = WallLoadBand (c .section) (c .product) (load-depth c depth) n
+Holds c P-w depth n = WallLoadBand (c .section) (grain-of (c .product)) (load-depth c depth) n
 Holds c p-he depth n = Allowance (LowerAt horizontal c depth) (magnified (C-h c)) 5 n
 Holds c p-we depth n = Allowance (LowerAt wall-friction c depth) (magnified (C-w c)) 4 n
 Holds c p-p depth n = Allowance (LowerAt horizontal c depth) (exact-patch c) 3 n
 
 -- what the hopper's formulas are filled with: lower fractions of p_vf(V) and n3
 abbrev pub LowerFoot : Silo → Low → Type 0
-LowerFoot c = LowerHopper (LowerAt vertical c (c .foot)) (c .product .friction) (base (c .section) (c .product) (c .height) (c .run))
+LowerFoot c = LowerHopper (LowerAt vertical c (c .foot)) (c .product .friction) (base (c .section) (grain-of (c .product)) (c .height) (c .run))
 
 -- P_n unrounded, at k quarters of the hopper's slope
 abbrev pub normal-at : Silo → ℕ → Low → Fraction

@@ -7,7 +7,7 @@ use lib.Dec.{eqb}
 use lib.ListN.{replicate}
 use Rattle.fraction.specs.Fraction.{Fraction}
 use Rattle.janssen.specs.Section.{d-c}
-use Rattle.janssen.specs.Filling.{Kind}
+use Rattle.janssen.specs.Filling.{Kind, grain-of}
 use Rattle.janssen.specs.Filling.Kind.{horizontal, vertical, wall-friction}
 use Rattle.janssen.specs.Numbers.{FillingNumbers}
 use Rattle.discharge.specs.Discharge.{horizontal-magnifier, friction-magnifier, magnified-load, patch-load, C-b}
@@ -31,7 +31,7 @@ load-depth c depth = depth - c .headroom
 
 -- a filling pressure at a depth below the brim
 abbrev pub pressure-at : FillingNumbers → Silo → Kind → ℕ → ℕ
-pressure-at f c k depth = f .filling-at k (c .section) (c .product) (load-depth c depth)
+pressure-at f c k depth = f .filling-at k (c .section) (grain-of (c .product)) (load-depth c depth)
 
 -- h = V - g + H, from the grain's surface down to the outlet
 abbrev pub full-height : Silo → ℕ
@@ -50,7 +50,7 @@ number f c listed-depth depth = depth
 number f c p-hf depth = pressure-at f c horizontal depth
 number f c p-wf depth = pressure-at f c wall-friction depth
 number f c p-vf depth = pressure-at f c vertical depth
-number f c P-w depth = f .wall-load-at (c .section) (c .product) (load-depth c depth)
+number f c P-w depth = f .wall-load-at (c .section) (grain-of (c .product)) (load-depth c depth)
 number f c p-he depth = magnified-load (C-h c) (pressure-at f c horizontal depth)
 number f c p-we depth = magnified-load (C-w c) (pressure-at f c wall-friction depth)
 number f c p-p depth = patch-load (c .eccentricity) (d-c (c .section)) (magnified-load (C-h c) (pressure-at f c horizontal depth))
@@ -58,7 +58,7 @@ number f c p-p depth = patch-load (c .eccentricity) (d-c (c .section)) (magnifie
 -- P_n and P_t at k quarters of the hopper's slope, from p_vf(V)
 abbrev pub normal-number : FillingNumbers → Silo → ℕ → ℕ
 normal-number f c k =
-    P-n (c .height) (c .run) k (n3 (c .product .friction) (B (c .section) (c .product) (c .height) (c .run))) (number f c p-vf (c .foot))
+    P-n (c .height) (c .run) k (n3 (c .product .friction) (B (c .section) (grain-of (c .product)) (c .height) (c .run))) (number f c p-vf (c .foot))
 
 abbrev pub friction-number : FillingNumbers → Silo → ℕ → ℕ
 friction-number f c k = P-t (c .product .friction) (normal-number f c k)

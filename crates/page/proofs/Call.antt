@@ -11,8 +11,10 @@ use lib.Dec.{leb}
 use lib.ListN.{length, drop}
 use lib.Seq.{sets, sets-eq}
 use Rattle.records.specs.Rules.{_unless_, first-unmet}
+use Rattle.exponential.specs.program.Table.{table}
+use Rattle.exponential.proofs.TableLaws.{tabulated}
 use Rattle.janssen.specs.Numbers.{FillingNumbers}
-use Rattle.janssen.specs.program.Pressure.{computed}
+use Rattle.janssen.specs.program.Pressure.{computed-by, computed}
 use Rattle.description.specs.Silo.{depth-count}
 use Rattle.description.specs.declared.Described.{Described}
 use Rattle.description.specs.program.Described.{wall-of, described-of}
@@ -50,7 +52,7 @@ module _ (s : List ℕ) (n : ℕ) where
   last-of-page h = sheet-passed s _ h
 
 -- beside its length call (document 02, C-17): the refusal that it answers, or 20; and 20 where it tells a length, for which the buffer has room
-module _ {f : FillingNumbers} {s lent left : List ℕ} {r : ℕ} (p : PagePromise f s lent r left) where
+module _ {f : List ℕ → FillingNumbers} {t s lent left : List ℕ} {r : ℕ} (p : PagePromise f t s lent r left) where
   pub refused-or-20 : (k : ℕ) → page-length s ≡ Refused k → (r ≡ k) ⊎ (r ≡ 20)
   unfolding page-rules
   refused-or-20 = beside-refused s _ (page-due s) (p .answer)
@@ -69,19 +71,19 @@ module _ (s : List ℕ) (h : refusal-of s ≡ 0) where
 
 module _ (s lent : List ℕ) where
   -- any refusal leaves the buffer as it was
-  refused-with : (r : ℕ) → r ≡ first-unmet (page-rules s (length lent)) → (r ≡ 0 → ⊥) → PagePromise computed s lent r lent
+  refused-with : (r : ℕ) → r ≡ first-unmet (page-rules s (length lent)) → (r ≡ 0 → ⊥) → PagePromise computed-by table s lent r lent
   refused-with r e n =
-      record { answer = e; unchanged = λ _. refl; written = λ o. absurd (n o); due = λ o. absurd (n o); demand = λ o. absurd (n o) }
+      record { answer = e; unchanged = λ _. refl; written = λ o. absurd (n o); due = λ o. absurd (n o); table = tabulated; demand = λ o. absurd (n o) }
 
-  pub refused : (r : ℕ) → r ≡ refusal-of s → (r ≡ 0 → ⊥) → PagePromise computed s lent r lent
+  pub refused : (r : ℕ) → r ≡ refusal-of s → (r ≡ 0 → ⊥) → PagePromise computed-by table s lent r lent
   refused r e n = refused-with r (e ∙ sym (refused-page s (length lent) (λ o. n (e ∙ o)))) n
 
-  pub short : refusal-of s ≡ 0 → length lent < page-due s → PagePromise computed s lent 18 lent
+  pub short : refusal-of s ≡ 0 → length lent < page-due s → PagePromise computed-by table s lent 18 lent
   unfolding first-unmet
   short h n = refused-with 18 (sym (last-of-page s (length lent) h ∙ simp (lt-leb (page-due s) (length lent) n))) (λ o. omega arith)
 
   pub written : (left : List ℕ) → refusal-of s ≡ 0 → page-due s ≤ length lent → left ≡ sets lent 0 (page-text (answers s) (depth-count s))
-      → PagePromise computed s lent 0 left
+      → PagePromise computed-by table s lent 0 left
   unfolding first-unmet
   written left h n e =
       let long : 0 + length (page computed s) ≡ page-due s = omega (arith, page-length-is s h) in
@@ -93,5 +95,6 @@ module _ (s lent : List ℕ) where
             ∙ sets-eq (page computed s) lent 0 (omega (arith, long, n))
             ∙ ap (λ (k : ℕ). page computed s ++ drop k lent) long;
         due = λ _. page-length-is s h;
+        table = tabulated;
         demand = λ _. (answers s, answers-filled s, claim s (answers s) h (answers-filled s));
       }

@@ -1,7 +1,8 @@
 // The load page of a sheet: text for the dealer's folder. Document 02, C-15.
 ghost use mathlib.Core.Path.{_≡_};
 ghost use Prim.Native.Nat.{_<_, _≤_};
-ghost use Rattle.janssen.specs.program.Pressure.{computed};
+ghost use Rattle.exponential.specs.program.Table.{table};
+ghost use Rattle.janssen.specs.program.Pressure.{computed-by};
 ghost use Rattle.page.specs.Page.{page-size, page-length};
 ghost use Rattle.page.specs.Promise.{PagePromise};
 use answers::length::Length;
@@ -31,7 +32,7 @@ pub fn page_length(sheet: &[u8]) -> Length
 
 // The page call: 0 with the page at the buffer's start, or the number of the first refusal with the buffer as it was.
 pub fn page(sheet: &[u8], out: &mut [u8]) -> u32
-    ensures { λ r. ⌜ PagePromise computed (now (sheet .entry)) (now (out .entry)) r (now (out .exit)) ⌝ }
+    ensures { λ r. ⌜ PagePromise computed-by table (now (sheet .entry)) (now (out .entry)) r (now (out .exit)) ⌝ }
 {
     let judged = sheet::examine(Asked::Loads, sheet, 0);
     if judged.refused != 0 {

@@ -13,6 +13,7 @@ use Rattle.janssen.specs.declared.Section.{Section}
 use Rattle.janssen.specs.declared.Section.the-variants.{Circle, Rectangle}
 use Rattle.janssen.specs.declared.Product.{Product}
 use Rattle.janssen.specs.Section.{side-a, side-b, d-c}
+use Rattle.janssen.specs.Filling.{grain-of}
 use Rattle.janssen.specs.program.Range.{Within, InRange}
 use Rattle.description.specs.declared.Eccentricities.{Eccentricities}
 use Rattle.description.specs.declared.Bottom.{Bottom}
@@ -41,7 +42,7 @@ within-in : {low high x : ℕ} → Within low high x → within low high x ≡ t
 within-in {low} {high} {x} w = true-within low high x (w .least) (w .most)
 
 -- 6 and 7
-range-of : (c : Section) (p : Product) → sides-met c ≡ true → product-met p ≡ true → InRange c p × ((p .factor ≡ 0) ⊎ Within 100 200 (p .factor))
+range-of : (c : Section) (p : Product) → sides-met c ≡ true → product-met p ≡ true → InRange c (grain-of p) × ((p .factor ≡ 0) ⊎ Within 100 200 (p .factor))
 unfolding sides-met
 range-of c p hs hp =
     let sides = both-true (side-met (side-a c)) (side-met (side-b c)) hs in
@@ -62,7 +63,7 @@ range-of c p hs hp =
       ⊎-elim (λ e. inl (eqb-true (p .factor) 0 e)) (λ e. inr (in-within 100 200 (p .factor) e)) (either-true (eqb (p .factor) 0) (within 100 200 (p .factor)) (q3 .1)),
     )
 
-of-sides : (c : Section) (p : Product) → InRange c p → sides-met c ≡ true
+of-sides : (c : Section) (p : Product) → InRange c (grain-of p) → sides-met c ≡ true
 unfolding sides-met
 of-sides c p i = simp (within-in (i .a-in), within-in (i .b-in))
 
@@ -79,7 +80,7 @@ of-proportion (Rectangle a b) h = le-leb (max a b) (3 * min a b) (h a b refl)
 of-factor : (c : ℕ) → (c ≡ 0) ⊎ Within 100 200 c → (eqb c 0 || within 100 200 c) ≡ true
 of-factor c x = ⊎-elim (λ e. simp (eq-eqb c 0 e)) (λ w. either-right (eqb c 0) (within 100 200 c) (within-in w)) x
 
-of-product : (c : Section) (p : Product) → InRange c p → (p .factor ≡ 0) ⊎ Within 100 200 (p .factor) → product-met p ≡ true
+of-product : (c : Section) (p : Product) → InRange c (grain-of p) → (p .factor ≡ 0) ⊎ Within 100 200 (p .factor) → product-met p ≡ true
 of-product c p i x = simp (within-in (i .γ-in), within-in (i .Ks-in), within-in (i .μ-in), of-factor (p .factor) x)
 
 -- 9

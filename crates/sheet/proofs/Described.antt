@@ -10,6 +10,7 @@ use lib.Dec.{leb}
 use lib.ListN.{length, getD, take}
 use lib.Seq.{take-length}
 use Rattle.janssen.specs.Section.{d-c}
+use Rattle.janssen.specs.Filling.{grain-of}
 use Rattle.janssen.specs.program.Range.{Within, InRange}
 use Rattle.description.specs.Silo.{section-of, product-sent, product-of, factor-read, strakes-of, strake-count, depths-of, sum, V-of, headroom-of, h-of, edge-of}
 use Rattle.description.specs.program.Described.{wall-of, described-of}
@@ -83,7 +84,7 @@ module _ (s : List ℕ) where
     grain-below-ten = let h = a .below-ten in omega arith
 
     -- section and product as they are read
-    pub in-range : InRange (section-of s) (product-of s)
+    pub in-range : InRange (section-of s) (grain-of (product-of s))
     unfolding product-of
     in-range =
         let r = a .values .range in

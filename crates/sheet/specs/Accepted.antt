@@ -9,6 +9,7 @@ use Rattle.janssen.specs.declared.Section.{Section}
 use Rattle.janssen.specs.declared.Section.the-variants.{Rectangle}
 use Rattle.janssen.specs.declared.Product.{Product}
 use Rattle.janssen.specs.Section.{d-c}
+use Rattle.janssen.specs.Filling.{grain-of}
 use Rattle.janssen.specs.program.Range.{Within, InRange}
 use Rattle.description.specs.declared.Eccentricities.{Eccentricities}
 use Rattle.description.specs.declared.Bottom.{Bottom}
@@ -50,7 +51,7 @@ pub record Hopper (dc : ℕ) (b : Bottom) : Type 0 where
 -- the values inside their ranges
 pub record Values (c : Section) (p : Product) (e : Eccentricities) (b : Bottom) : Type 0 where
   -- 6, and 7 but for C0
-  pub range : InRange c p
+  pub range : InRange c (grain-of p)
   pub factor-range : (p .factor ≡ 0) ⊎ Within 100 200 (p .factor)
   -- 8
   pub inlet-most : 4 * e .inlet ≤ d-c c

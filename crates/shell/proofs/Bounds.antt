@@ -11,6 +11,7 @@ use Rattle.cosine.specs.program.Table.{entry}
 use Rattle.cosine.proofs.CosineLaws.{entry-falls, entry-most}
 use Rattle.janssen.specs.program.Pressure.{computed}
 use Rattle.janssen.specs.Section.{d-c}
+use Rattle.janssen.specs.Filling.{grain-of}
 use Rattle.janssen.proofs.Geometry.{d-c-most}
 use Rattle.description.specs.Silo.{section-of, product-of, V-of}
 use Rattle.sheet.specs.Refusal.{refusal-of}
@@ -81,7 +82,7 @@ module _ (s : List ℕ) (z : ℕ) (h : refusal-of s ≡ 0) (under : z ≤ V-of s
   patch-fits = let a = accepted s h .measured in patch-small (silo-of s) (silo-fits s a) z (reached s a z under) (omega (arith, V-most s a))
 
   pub width-most : d-c (section-of s) ≤ 50000
-  width-most = let a = accepted s h .measured in d-c-most (section-of s) (product-of s) (in-range s a)
+  width-most = let a = accepted s h .measured in d-c-most (section-of s) (grain-of (product-of s)) (in-range s a)
 
   -- every number of the reply list fits an i32
   pub sizes-fit : (d : ℕ) → size entry (patch-at computed s z) d < 2 ^ 31

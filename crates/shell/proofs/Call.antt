@@ -12,10 +12,12 @@ use lib.ListN.{length, getD}
 use lib.IntN.{ℤ, pos, natAbs}
 use Rattle.records.specs.Rules.{_unless_, first-unmet}
 use Rattle.records.proofs.Chain.{met, apart, stopped, skipped}
+use Rattle.exponential.specs.program.Table.{table}
+use Rattle.exponential.proofs.TableLaws.{tabulated}
 use Rattle.cosine.specs.program.Table.{entry}
-use Rattle.cosine.proofs.CosineLaws.{tabulated}
+use Rattle.cosine.proofs.CosineLaws.{tabulated as cosines-tabulated}
 use Rattle.janssen.specs.Section.{d-c}
-use Rattle.janssen.specs.program.Pressure.{computed}
+use Rattle.janssen.specs.program.Pressure.{computed-by, computed}
 use Rattle.description.specs.declared.Described.{Described}
 use Rattle.description.specs.Silo.{section-of, V-of}
 use Rattle.description.specs.program.Described.{described-of}
@@ -123,24 +125,24 @@ module _ (s : List ℕ) (z n : ℕ) where
 
 module _ (s : List ℕ) (z : ℕ) (lent : List ℤ) where
   -- any refusal leaves the list as it was
-  refused-with : (r : ℕ) → r ≡ first-unmet (shell-rules s z (length lent)) → (r ≡ 0 → ⊥) → ShellPromise computed entry s z lent r lent
+  refused-with : (r : ℕ) → r ≡ first-unmet (shell-rules s z (length lent)) → (r ≡ 0 → ⊥) → ShellPromise computed-by table entry s z lent r lent
   refused-with r e n =
-      record { answer = e; unchanged = λ _. refl; filled = λ o. absurd (n o); table = tabulated; demand = λ o. absurd (n o) }
+      record { answer = e; unchanged = λ _. refl; filled = λ o. absurd (n o); table = tabulated; cosines = cosines-tabulated; demand = λ o. absurd (n o) }
 
-  pub refused : (r : ℕ) → r ≡ first-unmet (sheet-rules-at s z) → (r ≡ 0 → ⊥) → ShellPromise computed entry s z lent r lent
+  pub refused : (r : ℕ) → r ≡ first-unmet (sheet-rules-at s z) → (r ≡ 0 → ⊥) → ShellPromise computed-by table entry s z lent r lent
   refused r e n = refused-with r (e ∙ sym (refused-shell s z (length lent) (λ o. n (e ∙ o)))) n
 
   module _ (h : first-unmet (sheet-rules-at s z) ≡ 0) where
-    pub rectangle : is-circle (section-of s) ≡ false → ShellPromise computed entry s z lent 19 lent
+    pub rectangle : is-circle (section-of s) ≡ false → ShellPromise computed-by table entry s z lent 19 lent
     unfolding first-unmet
     rectangle c = refused-with 19 (sym (own-of-shell s z (length lent) h ∙ simp c)) (λ o. omega arith)
 
     module _ (c : is-circle (section-of s) ≡ true) where
-      pub other-length : (length lent ≡ 361 → ⊥) → ShellPromise computed entry s z lent 14 lent
+      pub other-length : (length lent ≡ 361 → ⊥) → ShellPromise computed-by table entry s z lent 14 lent
       unfolding first-unmet
       other-length n = refused-with 14 (sym (own-of-shell s z (length lent) h ∙ simp (c, ne-eqb (length lent) 361 n))) (λ o. omega arith)
 
-      pub filled : (left : List ℤ) → length lent ≡ 361 → RoundOf computed entry s z left → ShellPromise computed entry s z lent 0 left
+      pub filled : (left : List ℤ) → length lent ≡ 361 → RoundOf computed entry s z left → ShellPromise computed-by table entry s z lent 0 left
       unfolding first-unmet
       filled left n r =
           let a = accepted-at s z h in
@@ -149,5 +151,6 @@ module _ (s : List ℕ) (z : ℕ) (lent : List ℤ) where
             unchanged = λ o. absurd (o refl);
             filled = λ _. r;
             table = tabulated;
+            cosines = cosines-tabulated;
             demand = λ _. shell-claim s z left (a .0) (a .1) r;
           }

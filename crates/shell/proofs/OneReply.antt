@@ -11,10 +11,9 @@ use lib.ListN.{length, getD}
 use lib.Seq.{ext-getD}
 use lib.IntN.{ℤ, pos}
 use Rattle.fraction.proofs.Up.{up-unique}
-use Rattle.cosine.specs.program.Table.{entry}
-use Rattle.cosine.proofs.CosineLaws.{tabulated}
+use Rattle.cosine.specs.Cosine.{CosineTable}
 use Rattle.janssen.specs.Section.{d-c}
-use Rattle.janssen.specs.program.Pressure.{computed}
+use Rattle.janssen.specs.Numbers.{FillingNumbers}
 use Rattle.records.specs.Format.{place}
 use Rattle.records.specs.Rules.{_unless_, first-unmet}
 use Rattle.records.proofs.Chain.{chains-alike}
@@ -35,24 +34,24 @@ use Rattle.shell.proofs.Quadrants.{near}
 use Rattle.shell.proofs.Call.{shell-accepted}
 
 -- the size at 0 degrees is p_p
-size-whole : (p : ℕ) → size entry p 0 ≡ p
+size-whole : {c : ℕ → ℕ} → CosineTable c → (p : ℕ) → size c p 0 ≡ p
 unfolding size
-size-whole p =
-    let e = tabulated .exact .0 in
-    up-unique (p * entry 0) 1000000000 p (omega arith) (omega (arith, ap (λ (x : ℕ). p * x) e)) (omega (arith, ap (λ (x : ℕ). p * x) e))
+size-whole {c} cosines p =
+    let e = cosines .exact .0 in
+    up-unique (p * c 0) 1000000000 p (omega arith) (omega (arith, ap (λ (x : ℕ). p * x) e)) (omega (arith, ap (λ (x : ℕ). p * x) e))
 
 -- p_p of the given depth is the one that the answer list has for it
-pub as-answered : (s answers : List ℕ) (z : ℕ) (list : List ℤ) → Filled computed s answers → RoundOf computed entry s z list
+pub as-answered : (f : FillingNumbers) (c : ℕ → ℕ) → CosineTable c → (s answers : List ℕ) (z : ℕ) (list : List ℤ) → Filled f s answers → RoundOf f c s z list
     → (i : ℕ) → i < depth-count s → depth s i ≡ z → getD list 0 (pos 0) ≡ pos (load-in s answers p-p i)
 unfolding apart
-as-answered s answers z list a r i h e =
-    let p = number computed (silo-of s) p-p z in
+as-answered f c cosines s answers z list a r i h e =
+    let p = number f (silo-of s) p-p z in
     r .pressures 0 (omega arith)
-    ∙ near p 0 0 refl (omega arith)
-    ∙ ap pos (size-whole p ∙ ap (number computed (silo-of s) p-p) (sym e) ∙ sym (a .at-depths p-p i h))
+    ∙ near c p 0 0 refl (omega arith)
+    ∙ ap pos (size-whole cosines p ∙ ap (number f (silo-of s) p-p) (sym e) ∙ sym (a .at-depths p-p i h))
 
 -- every number of the list is fixed
-round-once : (d p : ℕ) (list list' : List ℤ) → Round entry d p list → Round entry d p list' → list ≡ list'
+round-once : {c : ℕ → ℕ} (d p : ℕ) (list list' : List ℤ) → Round c d p list → Round c d p list' → list ≡ list'
 round-once d p list list' r r' = ext-getD (pos 0) list list' (r .due ∙ sym (r' .due)) each
   where
     last : (i : ℕ) → i ≡ 360 → getD list i (pos 0) ≡ getD list' i (pos 0)
@@ -72,28 +71,29 @@ module _ (s s' : List ℕ) (z : ℕ) (alike : Alike s s') where
       chains-alike (sheet-rules-at s z) (sheet-rules-at s' z) _ _ (rules-numbered (leb z (V-of s)) s) (rules-numbered (leb z (V-of s')) s') (alike .refusals .loads-at z)
       (λ h. ap (λ (c : Silo). first-unmet (19 unless is-circle (c .section) ∷ 14 unless eqb n 361 ∷ [])) (accepted-alike s s' alike (accepted-at s z h .0) .silos))
 
-  module _ {lent left left' : List ℤ} {r r' : ℕ} (a : ShellPromise computed entry s z lent r left) (b : ShellPromise computed entry s' z lent r' left') where
+  module _ {f : List ℕ → FillingNumbers} {t : List ℕ} {c : ℕ → ℕ} {lent left left' : List ℤ} {r r' : ℕ}
+      (a : ShellPromise f t c s z lent r left) (b : ShellPromise f t c s' z lent r' left') where
     answers-same : r ≡ r'
     answers-same = a .answer ∙ answer-by (length lent) ∙ sym (b .answer)
 
     left-by : Dec (r ≤ 0) → left ≡ left'
     left-by (yes o) =
         let h : r ≡ 0 = omega arith in
-        let c = accepted-alike s s' alike (shell-accepted s z (length lent) (sym (a .answer) ∙ h) .0) .silos in
+        let silos = accepted-alike s s' alike (shell-accepted s z (length lent) (sym (a .answer) ∙ h) .0) .silos in
         round-once _ _ left left' (a .filled h)
-        (subst (λ (c : Silo). Round entry (d-c (c .section)) (number computed c p-p z) left') (sym c) (b .filled (sym answers-same ∙ h)))
+        (subst (λ (x : Silo). Round c (d-c (x .section)) (number (f t) x p-p z) left') (sym silos) (b .filled (sym answers-same ∙ h)))
     left-by (no o) = a .unchanged (λ e. o (omega (arith, e))) ∙ sym (b .unchanged (λ e. o (omega (arith, e, answers-same))))
 
     pub one-reply : (r ≡ r') × (left ≡ left')
     one-reply = (answers-same, left-by (decLe r 0))
 
-module _ (s : List ℕ) (z : ℕ) (lent left left' : List ℤ) (r r' : ℕ) where
+module _ (f : List ℕ → FillingNumbers) (t : List ℕ) (c : ℕ → ℕ) (s : List ℕ) (z : ℕ) (lent left left' : List ℤ) (r r' : ℕ) where
   -- a sheet of six records, and a headroom of 0 behind it
-  pub level-reply : place s 6 ≡ length s → length s + 8 ≤ 1024 → ShellPromise computed entry s z lent r left
-      → ShellPromise computed entry (s ++ level) z lent r' left' → (r ≡ r') × (left ≡ left')
+  pub level-reply : place s 6 ≡ length s → length s + 8 ≤ 1024 → ShellPromise f t c s z lent r left
+      → ShellPromise f t c (s ++ level) z lent r' left' → (r ≡ r') × (left ≡ left')
   level-reply six short a b = one-reply s (s ++ level) z (level-alike s six short) a b
 
   -- a blank factor, and 155 written in
-  pub reply-acts-as-155 : Blank s → ShellPromise computed entry s z lent r left → ShellPromise computed entry (with-factor 155 s) z lent r' left'
+  pub reply-acts-as-155 : Blank s → ShellPromise f t c s z lent r left → ShellPromise f t c (with-factor 155 s) z lent r' left'
       → (r ≡ r') × (left ≡ left')
   reply-acts-as-155 blank a b = one-reply s (with-factor 155 s) z (blank-alike s blank) a b

@@ -28,9 +28,9 @@ size-none p =
     ap (λ (x : ℕ). up (x ⊘ 1000000000)) e ∙ up-zero 1000000000 (omega arith)
 
 -- at most 90 degrees from 0, and at most 90 degrees from 180
-pub near : (p θ d : ℕ) → apart θ ≡ d → d < 91 → p-ps entry p θ ≡ pos (size entry p d)
+pub near : (c : ℕ → ℕ) (p θ d : ℕ) → apart θ ≡ d → d < 91 → p-ps c p θ ≡ pos (size c p d)
 unfolding p-ps outward folded
-near p θ d e h =
+near c p θ d e h =
     let f : min d (180 - d) ≡ d = omega arith in
     rw (e, f) (simp (le-leb d 90 (omega arith)))
 
@@ -44,12 +44,12 @@ far p θ d e h = go (decLe d 89)
         rw (e, f) (simp (lt-leb (180 - d) 90 (omega arith)))
     go (no l) =
         let g : d ≡ 90 = omega arith in
-        near p θ 90 (e ∙ omega arith) (omega arith) ∙ rw (g, size-none p) refl
+        near entry p θ 90 (e ∙ omega arith) (omega arith) ∙ rw (g, size-none p) refl
 
 -- none at 90 and 270 degrees
 pub none : (p : ℕ) → (p-ps entry p 90 ≡ pos 0) × (p-ps entry p 270 ≡ pos 0)
 unfolding apart
-none p = (near p 90 90 refl (omega arith) ∙ ap pos (size-none p), near p 270 90 refl (omega arith) ∙ ap pos (size-none p))
+none p = (near entry p 90 90 refl (omega arith) ∙ ap pos (size-none p), near entry p 270 90 refl (omega arith) ∙ ap pos (size-none p))
 
 -- a number stored that is right in its place is right there, and keeps what is right elsewhere
 set-right : (l : List ℤ) (k θ : ℕ) (v x : ℤ) → k < length l → θ ≡ k → v ≡ x → getD (set l k v) θ (pos 0) ≡ x
@@ -94,11 +94,11 @@ module _ (d p : ℕ) (l : List ℤ) (long : length l ≡ 361) (h : d < 91) where
   -- the four places, and what stands there
   at-first : (θ : ℕ) → θ ≡ d → pos n ≡ p-ps entry p θ
   unfolding apart
-  at-first θ e = sym (near p θ d (omega arith) h)
+  at-first θ e = sym (near entry p θ d (omega arith) h)
 
   at-second : (θ : ℕ) → θ < 360 → θ ≡ 360 - d → pos n ≡ p-ps entry p θ
   unfolding apart
-  at-second θ g e = sym (near p θ d (omega arith) h)
+  at-second θ g e = sym (near entry p θ d (omega arith) h)
 
   at-third : (θ : ℕ) → θ ≡ 180 - d → negℤ (pos n) ≡ p-ps entry p θ
   unfolding apart

@@ -37,7 +37,7 @@ module _ (p : ℕ) where
   same-angle θ θ' e h = go (decLe (apart θ) 90)
     where
       go : Dec (apart θ ≤ 90) → at θ ≡ at θ'
-      go (yes l) = near p θ (apart θ) refl (omega arith) ∙ sym (near p θ' (apart θ) (sym e) (omega arith))
+      go (yes l) = near entry p θ (apart θ) refl (omega arith) ∙ sym (near entry p θ' (apart θ) (sym e) (omega arith))
       go (no l) = far p θ (180 - apart θ) (omega arith) (omega arith) ∙ sym (far p θ' (180 - apart θ) (omega arith) (omega arith))
 
   -- and opposite at the angle that makes it up to 180
@@ -45,10 +45,10 @@ module _ (p : ℕ) where
   opposite-angle θ θ' e h = go (decLe (apart θ') 90)
     where
       go : Dec (apart θ' ≤ 90) → at θ ≡ negℤ (at θ')
-      go (yes l) = far p θ (apart θ') e (omega arith) ∙ ap negℤ (sym (near p θ' (apart θ') refl (omega arith)))
+      go (yes l) = far p θ (apart θ') e (omega arith) ∙ ap negℤ (sym (near entry p θ' (apart θ') refl (omega arith)))
       go (no l) =
           let d = 180 - apart θ' in
-          near p θ d e (omega arith) ∙ sym (negℤ-negℤ (pos (size entry p d))) ∙ ap negℤ (sym (far p θ' d (omega arith) (omega arith)))
+          near entry p θ d e (omega arith) ∙ sym (negℤ-negℤ (pos (size entry p d))) ∙ ap negℤ (sym (far p θ' d (omega arith) (omega arith)))
 
   falls : (θ θ' : ℕ) → θ ≤ θ' → θ' ≤ 180 → at θ' ≤ℤ at θ
   unfolding apart
@@ -56,10 +56,10 @@ module _ (p : ℕ) where
     where
       go : Dec (θ ≤ 90) → Dec (θ' ≤ 90) → at θ' ≤ℤ at θ
       go (yes a) (yes b) =
-          rw (near p θ θ (omega arith) (omega arith), near p θ' θ' (omega arith) (omega arith))
+          rw (near entry p θ θ (omega arith) (omega arith), near entry p θ' θ' (omega arith) (omega arith))
           (outward-order (size entry p θ') (size entry p θ) (size-falls p θ θ' h))
       go (yes a) (no b) =
-          rw (near p θ θ (omega arith) (omega arith), far p θ' (180 - θ') (omega arith) (omega arith))
+          rw (near entry p θ θ (omega arith) (omega arith), far p θ' (180 - θ') (omega arith) (omega arith))
           (across-order (size entry p (180 - θ')) (size entry p θ))
       go (no a) (yes b) = absurd (omega arith)
       go (no a) (no b) =

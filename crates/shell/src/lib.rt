@@ -4,7 +4,7 @@ ghost use Prim.Native.Nat.{_≤_};
 ghost use lib.ListN.{length};
 ghost use Rattle.exponential.specs.program.Table.{table};
 ghost use Rattle.cosine.specs.program.Table.{table as cosine-table, entry};
-ghost use Rattle.janssen.specs.program.Pressure.{computed};
+ghost use Rattle.janssen.specs.program.Pressure.{computed-by, computed};
 ghost use Rattle.description.specs.Silo.{V-of};
 ghost use Rattle.description.specs.program.Described.{described-of};
 ghost use Rattle.sheet.specs.Refusal.{refusal-of};
@@ -55,7 +55,7 @@ fn fill(sheet: &[u8], described: Described, depth: u64, reply: &mut [i32])
 
 // The call: 0 with the reply list filled, or the number of the first refusal with the list as it was; the depth in mm below the brim.
 pub fn shell_patch(sheet: &[u8], depth: u32, reply: &mut [i32]) -> u32
-    ensures { λ r. ⌜ ShellPromise computed entry (now (sheet .entry)) depth (now (reply .entry)) r (now (reply .exit)) ⌝ }
+    ensures { λ r. ⌜ ShellPromise computed-by table entry (now (sheet .entry)) depth (now (reply .entry)) r (now (reply .exit)) ⌝ }
 {
     let judged = sheet::examine(Asked::Loads, sheet, depth as u64);
     if judged.refused != 0 {

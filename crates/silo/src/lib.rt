@@ -6,7 +6,8 @@ ghost use Rattle.answers.specs.Length.{answers-length, length-number};
 ghost use Rattle.catalogue.specs.Table.{catalogue-rules, catalogue-after};
 ghost use Rattle.governing.specs.Strakes.{governs, governs-number};
 ghost use Rattle.cosine.specs.program.Table.{entry};
-ghost use Rattle.janssen.specs.program.Pressure.{computed};
+ghost use Rattle.exponential.specs.program.Table.{table};
+ghost use Rattle.janssen.specs.program.Pressure.{computed-by};
 ghost use Rattle.answers.specs.Promise.{Promise};
 ghost use Rattle.page.specs.Page.{page-length};
 ghost use Rattle.page.specs.Promise.{PagePromise};
@@ -15,7 +16,7 @@ ghost use Rattle.shell.specs.Promise.{ShellPromise};
 // 0 with the answer list filled, or the number of the first refusal with the list as it was.
 #[no_mangle]
 pub extern "C" fn silo_loads(sheet: &[u8], answers: &mut [u32]) -> u32
-    ensures { λ r. ⌜ Promise computed (now (sheet .entry)) (now (answers .entry)) r (now (answers .exit)) ⌝ }
+    ensures { λ r. ⌜ Promise computed-by table (now (sheet .entry)) (now (answers .entry)) r (now (answers .exit)) ⌝ }
 {
     answers::loads(sheet, answers)
 }
@@ -39,7 +40,7 @@ pub extern "C" fn silo_page_length(sheet: &[u8]) -> u64
 // 0 with the page at the buffer's start and the bytes past it as they were, or the number of the first refusal with the buffer as it was.
 #[no_mangle]
 pub extern "C" fn silo_page(sheet: &[u8], page: &mut [u8]) -> u32
-    ensures { λ r. ⌜ PagePromise computed (now (sheet .entry)) (now (page .entry)) r (now (page .exit)) ⌝ }
+    ensures { λ r. ⌜ PagePromise computed-by table (now (sheet .entry)) (now (page .entry)) r (now (page .exit)) ⌝ }
 {
     page::page(sheet, page)
 }
@@ -47,7 +48,7 @@ pub extern "C" fn silo_page(sheet: &[u8], page: &mut [u8]) -> u32
 // 0 with the reply list filled, the patch round the shell at a depth in mm below the brim; or the number of the first refusal with the list as it was.
 #[no_mangle]
 pub extern "C" fn silo_shell_patch(sheet: &[u8], depth: u32, reply: &mut [i32]) -> u32
-    ensures { λ r. ⌜ ShellPromise computed entry (now (sheet .entry)) depth (now (reply .entry)) r (now (reply .exit)) ⌝ }
+    ensures { λ r. ⌜ ShellPromise computed-by table entry (now (sheet .entry)) depth (now (reply .entry)) r (now (reply .exit)) ⌝ }
 {
     shell::shell_patch(sheet, depth, reply)
 }

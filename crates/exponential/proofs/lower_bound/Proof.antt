@@ -9,26 +9,26 @@ use native.Mathlib.Omega.{arith}
 use native.Mathlib.Nat.{max-eq-left, max-eq-right, le-trans, le-of-eq}
 use lib.ListN.{getD}
 use Rattle.exponential.specs.program.Table.{table}
-use Rattle.exponential.specs.program.Lower.{denominator, between, entry, lower}
+use Rattle.exponential.specs.program.Lower.{denominator, between, entry-in, entry, lower-by, lower}
 use Rattle.exponential.proofs.TableLaws.{entry-le}
 use Rattle.exponential.proofs.LowerLaws.{lower-le}
 use Rattle.exponential.proofs.lower_bound.Statement.{statement}
 use Rattle.exponential.proofs.lower_bound.Tie as tie
 
 entry-of : (l : List ℕ) (k : ℕ) → l ≡ table → getD l k 0 ≡ entry k
-unfolding entry
+unfolding entry-in
 entry-of l k e = ap (λ (l : List ℕ). getD l k 0) e
 
 is-next : (l : List ℕ) (q r : ℕ) → l ≡ table → r ≡ entry (q / 2 ^ 27) * (2 ^ 35 - q % 2 ^ 27) / denominator (q % 2 ^ 27)
     → r < getD l (q / 2 ^ 27 + 1) 0 → getD l (q / 2 ^ 27 + 1) 0 ≡ lower q
-unfolding lower between
+unfolding lower-by between
 is-next l q r e f h =
     let n : getD l (q / 2 ^ 27 + 1) 0 ≡ entry (q / 2 ^ 27 + 1) = entry-of l (q / 2 ^ 27 + 1) e in
     n ∙ sym (max-eq-right (omega arith))
 
 is-quotient : (l : List ℕ) (q r : ℕ) → l ≡ table → r ≡ entry (q / 2 ^ 27) * (2 ^ 35 - q % 2 ^ 27) / denominator (q % 2 ^ 27)
     → getD l (q / 2 ^ 27 + 1) 0 ≤ r → r ≡ lower q
-unfolding lower between
+unfolding lower-by between
 is-quotient l q r e f h =
     let n : getD l (q / 2 ^ 27 + 1) 0 ≡ entry (q / 2 ^ 27 + 1) = entry-of l (q / 2 ^ 27 + 1) e in
     f ∙ sym (max-eq-left (omega arith))

@@ -1,6 +1,7 @@
 -- The lower bound of 2^40·e^(-q) at q = Q/2^33 that the program uses, as the program computes it. What holds of it is proved in
 -- `proofs/LowerLaws.antt`: it lies below, it lies less than 354 below, it never rises with Q, and it is 2^40 at Q = 0.
 use Prim.Native.Nat.{ℕ, _+_, _-_, _*_, _/_, _%_, _^_, max}
+use mathlib.Core.List.{List}
 use lib.ListN.{getD}
 use Rattle.fraction.specs.Fraction.{up, _⊘_}
 use Rattle.exponential.specs.program.Table.{table}
@@ -13,9 +14,17 @@ denominator j = 2 ^ 35 + 3 * j + up ((j * j) ⊘ 2 ^ 33) + up ((j * up ((j * j) 
 unfoldable pub between : ℕ → ℕ → ℕ → ℕ
 between t next j = max (t * (2 ^ 35 - j) / denominator j) next
 
-unfoldable pub entry : ℕ → ℕ
-entry k = getD table k 0
+-- the entry at k/64 of a table
+unfoldable pub entry-in : List ℕ → ℕ → ℕ
+entry-in t k = getD t k 0
 
--- 2^40·e^(-Q/2^33) from below
-unfoldable pub lower : ℕ → ℕ
-lower Q = between (entry (Q / 2 ^ 27)) (entry (Q / 2 ^ 27 + 1)) (Q % 2 ^ 27)
+-- 2^40·e^(-Q/2^33) from below, by a table
+unfoldable pub lower-by : List ℕ → ℕ → ℕ
+lower-by t Q = between (entry-in t (Q / 2 ^ 27)) (entry-in t (Q / 2 ^ 27 + 1)) (Q % 2 ^ 27)
+
+-- by the one that the program holds
+abbrev pub entry : ℕ → ℕ
+entry k = entry-in table k
+
+abbrev pub lower : ℕ → ℕ
+lower Q = lower-by table Q

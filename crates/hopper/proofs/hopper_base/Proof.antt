@@ -4,6 +4,7 @@ use mathlib.Core.Path.{sym}
 use native.Mathlib.Omega.{arith}
 use native.Mathlib.Nat.{mul-le-mul}
 use borrow.Author.Needs.{needs}
+use Rattle.janssen.specs.Filling.{grain-of}
 use Rattle.hopper.proofs.Hopper.{base-answer}
 use Rattle.hopper.proofs.hopper_base.Statement.{statement}
 use Rattle.hopper.proofs.hopper_base.Tie as tie
@@ -41,7 +42,7 @@ returns : tie.Need-returns
 returns c =
     let first = c .before .before .before in
     let start = first .before in
-    base-answer (start .args .section) (start .args .product) (start .args .height) (start .args .run) _ _ _ (start .pre .0) (start .pre .2)
+    base-answer (start .args .section) (grain-of (start .args .product)) (start .args .height) (start .args .run) _ _ _ (start .pre .0) (start .pre .2)
     (sym (first .side-a .ensures)) (sym (c .before .before .side-b .ensures)) (c .base-of-sides .ensures)
 
 pub hopper-base-spec : {M : Type 1} → statement M

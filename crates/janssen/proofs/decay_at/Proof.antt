@@ -3,7 +3,7 @@
 use borrow.Author.Needs.{needs}
 use mathlib.Core.Path.{_∙_, ap}
 use Rattle.exponential.specs.program.Lower.{lower}
-use Rattle.janssen.specs.program.Pressure.{decay}
+use Rattle.janssen.specs.program.Pressure.{decay-by}
 use Rattle.janssen.proofs.decay_at.Statement.{statement}
 use Rattle.janssen.proofs.decay_at.Tie as tie
 
@@ -17,7 +17,7 @@ lower-bound-requires : tie.Need-lower-bound-requires
 lower-bound-requires c κs = search needs
 
 returns : tie.Need-returns
-unfolding decay
+unfolding decay-by
 returns c = (c .lower-bound .ensures .0 ∙ ap lower (c .before .quotient-up .ensures), c .lower-bound .ensures .1)
 
 pub decay-at-spec : {M : Type 1} → statement M

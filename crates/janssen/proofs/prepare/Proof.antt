@@ -2,6 +2,7 @@
 -- Assumes nothing.
 use borrow.Author.Needs.{needs}
 use native.Mathlib.Omega.{arith}
+use Rattle.janssen.specs.Filling.{grain-of}
 use Rattle.janssen.proofs.PreparedNumbers.{both-within, prepared-are}
 use Rattle.janssen.proofs.prepare.Statement.{statement}
 use Rattle.janssen.proofs.prepare.Tie as tie
@@ -52,7 +53,7 @@ returns : tie.Need-returns
 returns c =
     let start = c .before .before .before .before .before .before .before .before .before .before in
     let first = c .before .before .before .before .before .before in
-    prepared-are (start .args .section) (start .args .product) (start .pre) (first .before .before .before .side-a .result)
+    prepared-are (start .args .section) (grain-of (start .args .product)) (start .pre) (first .before .before .before .side-a .result)
     (first .before .before .side-b .result) _ _ _ _ _ _ _ (first .before .before .before .side-a .ensures)
     (first .before .before .side-b .ensures) (first .step-of .ensures) (c .before .before .before .before .before .limit-of .ensures)
     (c .before .before .before .before .step-of2 .ensures) (c .before .before .before .limit-of2 .ensures)

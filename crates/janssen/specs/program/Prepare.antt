@@ -2,18 +2,17 @@
 use Prim.Native.Nat.{ℕ, _-_, _*_, _^_, _≤_, _<_}
 use Rattle.fraction.specs.Fraction.{_⊘_, up}
 use Rattle.janssen.specs.declared.Section.{Section}
-use Rattle.janssen.specs.declared.Product.{Product}
 use Rattle.janssen.specs.declared.Curve.{Curve}
 use Rattle.janssen.specs.declared.Prepared.{Prepared}
 use Rattle.janssen.specs.declared.FillingLoads.{FillingLoads}
-use Rattle.janssen.specs.Filling.{Kind, factors}
+use Rattle.janssen.specs.Filling.{Grain, Kind, factors}
 use Rattle.janssen.specs.Filling.Kind.{horizontal, vertical, wall-friction}
 use Rattle.janssen.specs.program.Pressure.{step, limit, decay, pressure, z0-scaled, loaded-depth, load}
 
-abbrev pub curve : Kind → Section → Product → Curve
+abbrev pub curve : Kind → Section → Grain → Curve
 curve k s p = record { step = step (factors k) s p; limit = limit k s p }
 
-abbrev pub prepared-for : Section → Product → Prepared
+abbrev pub prepared-for : Section → Grain → Prepared
 prepared-for s p = record {
   horizontal = curve horizontal s p;
   vertical = curve vertical s p;

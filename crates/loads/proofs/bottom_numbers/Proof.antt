@@ -4,7 +4,7 @@ use Prim.Native.Nat.{ℕ}
 use mathlib.Core.Path.{_∙_, sym, ap, ap₂}
 use mathlib.Core.List.{[], _∷_}
 use native.Mathlib.Omega.{arith}
-use Rattle.janssen.specs.program.Pressure.{computed, filling}
+use Rattle.janssen.specs.program.Pressure.{computed, filling-by, filling}
 use Rattle.janssen.specs.program.Prepare.{pressure-on}
 use Rattle.discharge.specs.Discharge.{magnified-load, C-b}
 use Rattle.loads.specs.declared.Basis.{Basis}
@@ -25,7 +25,7 @@ floor-requires : tie.Need-floor-requires
 floor-requires c κs = search needs
 
 returns : tie.Need-returns
-unfolding filling
+unfolding filling-by
 returns c =
     let at = c .before .before .before in
     let start = at .before .before .before .before .before in
@@ -37,7 +37,7 @@ returns c =
     (λ i. floor i ∷ 0 ∷ 0 ∷ 0 ∷ 0 ∷ 0 ∷ 0 ∷ 0 ∷ 0 ∷ 0 ∷ []) ∙ sym (bottom-flat computed (b .silo) (c .before .if1 .taken))
 
 hopper-numbers-requires : tie.Need-hopper-numbers-requires
-unfolding filling
+unfolding filling-by
 hopper-numbers-requires c κs =
     let at = c .before .before in
     let start = at .before .before .before .before .before in

@@ -5,7 +5,7 @@ use mathlib.Core.Path.{_∙_, ap, ap₂}
 use mathlib.Core.List.{[], _∷_}
 use Rattle.fraction.specs.Fraction.{_⊘_}
 use Rattle.janssen.specs.declared.FillingLoads.{FillingLoads}
-use Rattle.janssen.specs.program.Pressure.{filling, wall-load}
+use Rattle.janssen.specs.program.Pressure.{filling-by, filling, wall-load-by}
 use Rattle.janssen.specs.program.Prepare.{loads-on}
 use Rattle.discharge.specs.Discharge.{magnified-load, patch-load}
 use Rattle.loads.specs.declared.Basis.{Basis}
@@ -44,7 +44,7 @@ cast-t15 : tie.Need-cast-t15
 cast-t15 c = search needs
 
 returns : tie.Need-returns
-unfolding depth-numbers filling wall-load
+unfolding depth-numbers filling-by wall-load-by
 returns c =
     let loaded = c .before .before .before .before .before .before .before in
     let start = loaded .before .before .before .before in

@@ -3,7 +3,7 @@ use borrow.Author.Needs.{needs}
 use Prim.Native.Nat.{ℕ}
 use mathlib.Core.Path.{_∙_, ap, ap₂}
 use Rattle.fraction.specs.Fraction.{_⊘_}
-use Rattle.janssen.specs.program.Pressure.{filling}
+use Rattle.janssen.specs.program.Pressure.{filling-by, filling}
 use Rattle.janssen.specs.program.Prepare.{pressure-on}
 use Rattle.discharge.specs.Discharge.{magnified-load, patch-load}
 use Rattle.loads.specs.declared.Basis.{Basis}
@@ -32,7 +32,7 @@ patch-requires c κs =
     (d .0, d .1, d .2, c .magnified .ensures .1)
 
 returns : tie.Need-returns
-unfolding filling
+unfolding filling-by
 returns c =
     let pressed = c .before .before .before in
     let start = pressed .before .before .before .before .before in

@@ -3,7 +3,7 @@ use borrow.Author.Needs.{needs}
 use Prim.Native.Nat.{ℕ}
 use mathlib.Core.Path.{_∙_, ap₂}
 use Rattle.fraction.specs.Fraction.{_⊘_}
-use Rattle.janssen.specs.program.Pressure.{filling}
+use Rattle.janssen.specs.program.Pressure.{filling-by, filling}
 use Rattle.janssen.specs.program.Prepare.{pressure-on}
 use Rattle.discharge.specs.Discharge.{magnified-load}
 use Rattle.loads.specs.declared.Basis.{Basis}
@@ -26,7 +26,7 @@ magnified-requires c κs =
     (magnifiers-moderate (start .args .basis) (start .pre .1) .0, pressed .filling-pressure .ensures .1)
 
 returns : tie.Need-returns
-unfolding filling
+unfolding filling-by
 returns c =
     let pressed = c .before .before in
     let start = pressed .before .before .before .before .before in

@@ -3,6 +3,7 @@ use Prim.Native.Nat.{ℕ, _*_, _≤_}
 use mathlib.Core.Path.{_≡_}
 use mathlib.Core.List.{List, [], _∷_, map}
 use Rattle.janssen.specs.Section.{d-c}
+use Rattle.janssen.specs.Filling.{grain-of}
 use Rattle.janssen.specs.program.Range.{Within, InRange, InDepth}
 use Rattle.janssen.specs.program.Pressure.{computed}
 use Rattle.janssen.specs.program.Prepare.{prepared-for}
@@ -16,7 +17,7 @@ use Rattle.loads.specs.Load.Load.{listed-depth, p-hf, p-wf, p-vf, P-w, p
 abbrev pub basis-for : Silo → Basis
 basis-for c = record {
   silo = c;
-  prepared = prepared-for (c .section) (c .product);
+  prepared = prepared-for (c .section) (grain-of (c .product));
   shorter = d-c (c .section);
   horizontal = held (C-h c);
   friction = held (C-w c);
@@ -28,7 +29,7 @@ Reached c depth = InDepth (c .section) (load-depth c depth)
 
 -- the silo of an accepted sheet
 pub record Fits (c : Silo) : Type 0 where
-  pub range : InRange (c .section) (c .product)
+  pub range : InRange (c .section) (grain-of (c .product))
   pub factor-in : Within 100 200 (c .product .factor)
   pub eccentricity-most : 4 * c .eccentricity ≤ d-c (c .section)
   pub height-most : c .height ≤ 25000
