@@ -32,7 +32,7 @@ use Rattle.loads.specs.Load.Load.{p-he, p-we, p-p}
 use Rattle.loads.proofs.WithFactor.{product-with, silo-with, number-with, p-we-with, bottom-with, p-he-less, p-p-less}
 use Rattle.answers.specs.Length.{answers-length}
 use Rattle.answers.specs.Answers.{silo-of, depth, load-in}
-use Rattle.answers.specs.Claim.{LeftFor}
+use Rattle.answers.specs.Order.{LeftFor}
 use Rattle.answers.specs.Promise.{Promise}
 use Rattle.answers.specs.Factor.{with-factor, Blank, NoSmaller}
 use Rattle.answers.proofs.Demand.{two-records, silo-fits}
@@ -159,7 +159,7 @@ module _ (s : List ℕ) (b : Blank s) where
 
   pub acts-as-155 : (f : List ℕ → FillingNumbers) (t lent left left' : List ℕ) (r r' : ℕ) → Promise f t s lent r left → Promise f t written lent r' left'
       → (r ≡ r') × (left ≡ left')
-  acts-as-155 f t lent left left' r r' p q = one-call s written blank-alike p q
+  acts-as-155 = one-call s written blank-alike
 
 -- a smaller C0 written into an accepted sheet, whatever the filling pressures are
 module _ (f : FillingNumbers) (s : List ℕ) (c : ℕ) (least : 100 ≤ c) (most : c ≤ product-of s .factor) (list list' : List ℕ) where

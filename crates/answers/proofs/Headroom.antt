@@ -17,16 +17,17 @@ use Rattle.records.proofs.Alike.{SameRecord}
 use Rattle.records.proofs.Followed.{place-kept, record-kept, u32-behind, followed-passed, followed-refused}
 use Rattle.description.specs.Silo.{product-sent, product-of, depth-count, V-of, headroom-of}
 use Rattle.description.proofs.Headroom.{six-level, seventh-headroom}
-use Rattle.sheet.specs.Refusal.{product-met}
+use Rattle.sheet.specs.Refusal.{product-met, refusal-of}
 use Rattle.sheet.specs.Accepted.{Layout}
 use Rattle.sheet.proofs.Parts.{SameParts, product-same, same-parts, SameRules, values-same, refused-alike}
 use Rattle.loads.specs.Load.{Load}
-use Rattle.loads.specs.Load.{OfFilling, load-depth, number}
+use Rattle.loads.specs.Load.{FillingLoad, load-depth, number}
 use Rattle.loads.specs.Load.Load.{p-vf}
 use Rattle.answers.specs.Length.{answers-length}
 use Rattle.answers.specs.Answers.{silo-of, depth, load-in, Filled}
-use Rattle.answers.specs.Claim.{LeftFor, SameSectionAndProduct, Claim}
+use Rattle.answers.specs.Claim.{SameSectionAndProduct, Claim}
 use Rattle.answers.specs.Promise.{Promise}
+use Rattle.answers.proofs.Order.{lists-ordered}
 use Rattle.answers.proofs.OneSilo.{Alike, one-length, one-call}
 
 -- a record with headroom 0
@@ -91,15 +92,15 @@ module _ (s : List ℕ) (six : place s 6 ≡ length s) where
 
     pub level-record : (f : List ℕ → FillingNumbers) (t lent left left' : List ℕ) (r r' : ℕ) → Promise f t s lent r left → Promise f t (s ++ level) lent r' left'
         → (r ≡ r') × (left ≡ left')
-    level-record f t lent left left' r r' a b = one-call s (s ++ level) level-alike a b
+    level-record = one-call s (s ++ level) level-alike
 
 -- z - g, listed on an accepted sheet without headroom, beside z
-pub level-sheet : (f : FillingNumbers) (s s' list list' : List ℕ) → Claim f s list → LeftFor f s' list' → SameSectionAndProduct s s' → headroom-of s' ≡ 0
-    → (l : Load) → OfFilling l → (i j : ℕ) → i < depth-count s → j < depth-count s' → depth s' j ≡ depth s i - headroom-of s
+pub level-sheet : (f : FillingNumbers) (s s' list list' : List ℕ) → refusal-of s ≡ 0 → refusal-of s' ≡ 0 → Claim f s list → Claim f s' list'
+    → SameSectionAndProduct s s' → headroom-of s' ≡ 0 → (l : Load) → FillingLoad l → (i j : ℕ) → i < depth-count s → j < depth-count s' → depth s' j ≡ depth s i - headroom-of s
     → load-in s list l i ≡ load-in s' list' l j
 unfolding load-depth
-level-sheet f s s' list list' a b same brim l o i j h k e =
-    a .ordered s' list' b same l o i j h k .same (omega (arith, e, brim))
+level-sheet f s s' list list' ok ok' a b same brim l o i j h k e =
+    lists-ordered f s s' list list' ok ok' a b same l o i j h k .same (omega (arith, e, brim))
 
 -- the pressure on floor and hopper is the one that the list has for z = V
 pub foot-listed : (f : FillingNumbers) (s list : List ℕ) → Filled f s list → (i : ℕ) → i < depth-count s → depth s i ≡ V-of s

@@ -3,6 +3,7 @@ pub mod Stores
 pub mod Places
 pub mod SameRecords
 pub mod Demand
+pub mod Order
 pub mod Digits
 pub mod Edges
 pub mod Whole

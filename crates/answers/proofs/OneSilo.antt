@@ -1,15 +1,14 @@
 -- Two sheets that are refused alike and, where their records are in order, describe one silo with the same wall and depths (`OneSilo`) have one answer: the
 -- length call answers the same (`one-length`), and the load call answers the same and leaves the same list (`one-call`).
 -- Assumes nothing.
-use Prim.Native.Nat.{ℕ, suc, _≤_, _<_}
+use Prim.Native.Nat.{ℕ, suc, _<_}
 use mathlib.Core.List.{List, [], _∷_}
 use mathlib.Core.Path.{_≡_, refl, ap, sym, _∙_, subst}
-use native.Mathlib.Decide.{decLe}
-use native.Mathlib.Omega.{arith}
 use lib.Dec.{eqb}
 use lib.ListN.{length, getD, take}
 use Rattle.janssen.specs.Numbers.{FillingNumbers}
 use Rattle.records.specs.Rules.{_unless_, first-unmet}
+use Rattle.records.proofs.Fills.{fills-alike}
 use Rattle.description.specs.Silo.{strake-count, depth-count, edge-of, sum}
 use Rattle.sheet.specs.Refusal.{length-refusal, refusal-of}
 use Rattle.sheet.specs.Accepted.{Layout}
@@ -94,16 +93,8 @@ module _ (s s' : List ℕ) where
         answers-alike s s' _ _ (loads-alike s s' (alike .refusals))
         (λ h. ap (λ (m : ℕ). first-unmet (14 unless eqb n m ∷ [])) (due-same (accepted-alike h .parts)))
 
-    module _ {f : List ℕ → FillingNumbers} {t lent left left' : List ℕ} {r r' : ℕ} (a : Promise f t s lent r left) (b : Promise f t s' lent r' left') where
-      answers-same : r ≡ r'
-      answers-same = a .answer ∙ answer-by (length lent) ∙ sym (b .answer)
-
-      left-by : Dec (r ≤ 0) → left ≡ left'
-      left-by (yes z) =
-          let h : r ≡ 0 = omega (arith, z) in
-          let o : OneSilo s s' = accepted-alike (not-refused s (length lent) (sym (a .answer) ∙ h)) in
-          filled-once (f t) s left left' (a .filled h) (filled-same o (f t) left' (b .filled (sym answers-same ∙ h)))
-      left-by (no n) = a .unchanged (λ z. n (omega (arith, z))) ∙ sym (b .unchanged (λ z. n (omega (arith, z, answers-same))))
-
-      pub one-call : (r ≡ r') × (left ≡ left')
-      one-call = (answers-same, left-by (decLe r 0))
+    pub one-call : (f : List ℕ → FillingNumbers) (t lent left left' : List ℕ) (r r' : ℕ) → Promise f t s lent r left → Promise f t s' lent r' left'
+        → (r ≡ r') × (left ≡ left')
+    one-call f t lent left left' r r' a b =
+        fills-alike (a .1) (b .1) (answer-by (length lent))
+        (λ h x y. filled-once (f t) s left left' (x .filled) (filled-same (accepted-alike (not-refused s (length lent) h)) (f t) left' (y .filled)))

@@ -6,7 +6,7 @@ use lib.ListN.{length, set}
 use Rattle.records.specs.Format.{place, payload, payload-length}
 use Rattle.description.specs.Silo.{product-sent, strake-count, depth-count}
 use Rattle.loads.specs.Load.{Load}
-use Rattle.loads.specs.Load.{OfFilling}
+use Rattle.loads.specs.Load.{FillingLoad}
 use Rattle.loads.specs.Load.Load.{p-he, p-we, p-p}
 use Rattle.answers.specs.Answers.{load-in, bottom-in, strake-in}
 
@@ -27,6 +27,6 @@ pub record NoSmaller (s list s' list' : List ℕ) : Type 0 where
   pub patch-no-smaller : (i : ℕ) → i < depth-count s → load-in s' list' p-p i ≤ load-in s list p-p i
   pub strakes-no-smaller : (k : ℕ) → k < strake-count s → strake-in s' list' k ≤ strake-in s list k
   -- the same filling pressures, P_w and p_we, floor and hopper
-  pub filling-same : (l : Load) → OfFilling l → (i : ℕ) → i < depth-count s → load-in s list l i ≡ load-in s' list' l i
+  pub filling-same : (l : Load) → FillingLoad l → (i : ℕ) → i < depth-count s → load-in s list l i ≡ load-in s' list' l i
   pub p-we-same : (i : ℕ) → i < depth-count s → load-in s list p-we i ≡ load-in s' list' p-we i
   pub bottom-same : (k : ℕ) → k < 10 → bottom-in s list k ≡ bottom-in s' list' k

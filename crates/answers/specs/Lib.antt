@@ -3,6 +3,7 @@ pub mod Place
 pub mod Length
 pub mod Answers
 pub mod Claim
+pub mod Order
 pub mod Promise
 pub mod Factor
 pub mod program

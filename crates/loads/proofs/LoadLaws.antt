@@ -5,7 +5,7 @@ use mathlib.Core.Path.{_≡_, refl, ap, sym, subst}
 use mathlib.Core.List.{_∷_, _++_, map}
 use native.Mathlib.Omega.{arith}
 use borrow.Author.Tests.{eq-eqb, ne-eqb}
-use lib.ListN.{getD, replicate, getD-replicate}
+use lib.ListN.{getD, replicate}
 use Rattle.fraction.specs.Fraction.{whole, _⪯_}
 use Rattle.fraction.proofs.Order.{⪯-refl}
 use Rattle.janssen.specs.Section.{d-c}
@@ -29,9 +29,9 @@ use Rattle.hopper.proofs.Hopper.{P-n-allowance, P-t-allowance}
 use Rattle.loads.specs.declared.Silo.{Silo}
 use Rattle.loads.specs.declared.Basis.{Basis}
 use Rattle.loads.specs.Load.{Load}
-use Rattle.loads.specs.Load.{OfFilling, load-depth, pressure-at, full-height, C-h, C-w, number, quarters, normal-number, friction-number, bottom-numbers}
+use Rattle.loads.specs.Load.{FillingLoad, load-depth, pressure-at, full-height, C-h, C-w, number, quarters, normal-number, friction-number, bottom-numbers}
 use Rattle.loads.specs.Load.Load.{listed-depth, p-hf, p-wf, p-vf, P-w, p-he, p-we, p-p}
-use Rattle.loads.specs.Load.OfFilling.{of-p-hf, of-p-wf, of-p-vf, of-P-w}
+use Rattle.loads.specs.Load.FillingLoad.{of-p-hf, of-p-wf, of-p-vf, of-P-w}
 use Rattle.loads.specs.Holds.{InBand, Holds, BottomHolds}
 use Rattle.loads.specs.program.Basis.{Reached, Fits, Sound}
 
@@ -69,7 +69,7 @@ module _ (c c' : Silo) (same-section : c .section ≡ c' .section) (same-product
   load-more : (u v : ℕ) → InDepth (c' .section) v → u ≤ v → wall-load (c .section) (grain-of (c .product)) u ≤ wall-load (c' .section) (grain-of (c' .product)) v
   load-more u v d h = rw (same-section, same-product) (wall-load-rises (c' .section) (grain-of (c' .product)) u v (fits .range) d h)
 
-  pub filling-more : {l : Load} → OfFilling l → (x y : ℕ) → Reached c' y → load-depth c x ≤ load-depth c' y → number computed c l x ≤ number computed c' l y
+  pub filling-more : {l : Load} → FillingLoad l → (x y : ℕ) → Reached c' y → load-depth c x ≤ load-depth c' y → number computed c l x ≤ number computed c' l y
   filling-more of-p-hf x y d h = pressure-more horizontal _ _ d h
   filling-more of-p-wf x y d h = pressure-more wall-friction _ _ d h
   filling-more of-p-vf x y d h = pressure-more vertical _ _ d h
@@ -122,7 +122,7 @@ module _ (c : Silo) (fits : Fits c) where
 
   -- no load falls with the depth below the surface, nor with that below the brim, which z itself is
   module _ (depth depth' : ℕ) (d : Reached c depth') where
-    filling-down : {l : Load} → OfFilling l → load-depth c depth ≤ load-depth c depth' → number computed c l depth ≤ number computed c l depth'
+    filling-down : {l : Load} → FillingLoad l → load-depth c depth ≤ load-depth c depth' → number computed c l depth ≤ number computed c l depth'
     filling-down o h = filling-more c c refl refl fits o depth depth' d h
 
     rises-by : (l : Load) → load-depth c depth ≤ load-depth c depth' → (l ≡ listed-depth → depth ≤ depth') → number computed c l depth ≤ number computed c l depth'
@@ -151,7 +151,6 @@ module _ (c : Silo) (fits : Fits c) where
       let quarter = at-quarter (normal-number computed c) (friction-number computed c) in
       record {
         floor-holds = λ e. rw (is 0 (omega arith), bottom-flat computed c e) (magnified-load-allowance C-b (omega arith) 4 x (omega arith) fill);
-        zeros = λ e k h. rw (is (suc k) (omega arith), bottom-flat computed c e) (getD-replicate 9 k 0 0 h);
         P-n-holds =
             λ hr k h.
             rw (is k (omega arith), bottom-hopper computed c hr, quarter k h .0)

@@ -13,9 +13,9 @@ use Rattle.discharge.proofs.Magnifiers.{horizontal-magnifier-mono}
 use Rattle.discharge.proofs.Discharge.{magnified-load-mono, patch-load-mono}
 use Rattle.loads.specs.declared.Silo.{Silo}
 use Rattle.loads.specs.Load.{Load}
-use Rattle.loads.specs.Load.{OfFilling, load-depth, pressure-at, full-height, C-h, number, bottom-numbers}
+use Rattle.loads.specs.Load.{FillingLoad, load-depth, pressure-at, full-height, C-h, number, bottom-numbers}
 use Rattle.loads.specs.Load.Load.{p-he, p-we, p-p}
-use Rattle.loads.specs.Load.OfFilling.{of-p-hf, of-p-wf, of-p-vf, of-P-w}
+use Rattle.loads.specs.Load.FillingLoad.{of-p-hf, of-p-wf, of-p-vf, of-P-w}
 use Rattle.loads.specs.program.Basis.{Fits}
 use Rattle.loads.proofs.LoadLaws.{dc-positive}
 
@@ -37,7 +37,7 @@ silo-with n c =
     }
 
 module _ (f : FillingNumbers) (n : ℕ) (c : Silo) where
-  pub number-with : {l : Load} → OfFilling l → (depth : ℕ) → number f (silo-with n c) l depth ≡ number f c l depth
+  pub number-with : {l : Load} → FillingLoad l → (depth : ℕ) → number f (silo-with n c) l depth ≡ number f c l depth
   unfolding load-depth
   number-with of-p-hf depth = refl
   number-with of-p-wf depth = refl

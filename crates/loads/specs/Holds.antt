@@ -1,5 +1,5 @@
 -- What holds of the number of a load: it lies in its band, or keeps its allowance. Document 01, "Filling" and "Loads made from filling".
-use Prim.Native.Nat.{ℕ, suc, _+_, _≤_, _<_}
+use Prim.Native.Nat.{ℕ, _+_, _≤_, _<_}
 use mathlib.Core.Path.{_≡_}
 use Rattle.fraction.specs.Fraction.{Fraction, whole}
 use Rattle.janssen.specs.Section.{d-c}
@@ -48,7 +48,6 @@ normal-at c k l = hopper-normal (c .height) (c .run) k (l .v) (l .u)
 -- the bottom's ten numbers: the flat floor where there is no run, else P_n and P_t at k quarters
 pub record BottomHolds (c : Silo) (at : ℕ → ℕ) : Type 0 where
   pub floor-holds : c .run ≡ 0 → Allowance (LowerAt vertical c (c .foot)) (magnified C-b) 4 (at 0)
-  pub zeros : c .run ≡ 0 → (k : ℕ) → k < 9 → at (suc k) ≡ 0
   pub P-n-holds : 0 < c .run → (k : ℕ) → k ≤ 4 → Allowance (LowerFoot c) (normal-at c k) 8 (at k)
   pub P-t-holds : 0 < c .run → (k : ℕ) → k ≤ 4
       → Allowance (LowerFoot c) (λ l. hopper-friction (c .product .friction) (normal-at c k l)) 10 (at (5 + k))

@@ -19,11 +19,11 @@ pub data Load : Type 0 where
   listed-depth p-hf p-wf p-vf P-w p-he p-we p-p : Load
 
 -- the loads that are set by section, product and depth alone
-pub data OfFilling : Load → Type 0 where
-  of-p-hf : OfFilling p-hf
-  of-p-wf : OfFilling p-wf
-  of-p-vf : OfFilling p-vf
-  of-P-w : OfFilling P-w
+pub data FillingLoad : Load → Type 0 where
+  of-p-hf : FillingLoad p-hf
+  of-p-wf : FillingLoad p-wf
+  of-p-vf : FillingLoad p-vf
+  of-P-w : FillingLoad P-w
 
 -- the depth at which loads are worked out, below the grain's surface: the larger of 0 and z - g
 unfoldable pub load-depth : Silo → ℕ → ℕ

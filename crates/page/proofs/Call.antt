@@ -11,6 +11,7 @@ use lib.Dec.{leb}
 use lib.ListN.{length, drop}
 use lib.Seq.{sets, sets-eq}
 use Rattle.records.specs.Rules.{_unless_, first-unmet}
+use Rattle.records.proofs.Fills.{fills-refused, fills-done}
 use Rattle.exponential.specs.program.Table.{table}
 use Rattle.exponential.proofs.TableLaws.{tabulated}
 use Rattle.janssen.specs.Numbers.{FillingNumbers}
@@ -26,7 +27,7 @@ use Rattle.answers.proofs.LengthLaws.{beside-refused, beside-due}
 use Rattle.answers.proofs.Places.{answers-filled}
 use Rattle.answers.proofs.Demand.{claim}
 use Rattle.page.specs.Page.{page, page-size, page-due, page-length, page-rules}
-use Rattle.page.specs.Promise.{PagePromise}
+use Rattle.page.specs.Promise.{Written, PagePromise}
 use Rattle.page.specs.program.Text.{page-text}
 use Rattle.page.proofs.Lines.{page-text-length}
 use Rattle.page.proofs.Room.{answers-few, page-room}
@@ -52,14 +53,14 @@ module _ (s : List ℕ) (n : ℕ) where
   last-of-page h = sheet-passed s _ h
 
 -- beside its length call (document 02, C-17): the refusal that it answers, or 20; and 20 where it tells a length, for which the buffer has room
-module _ {f : List ℕ → FillingNumbers} {t s lent left : List ℕ} {r : ℕ} (p : PagePromise f t s lent r left) where
+module _ (f : List ℕ → FillingNumbers) (t s lent left : List ℕ) (r : ℕ) (p : PagePromise f t s lent r left) where
   pub refused-or-20 : (k : ℕ) → page-length s ≡ Refused k → (r ≡ k) ⊎ (r ≡ 20)
   unfolding page-rules
-  refused-or-20 = beside-refused s _ (page-due s) (p .answer)
+  refused-or-20 = beside-refused s _ (page-due s) (p .1 .answer)
 
   pub measured-refused : (n : ℕ) → page-length s ≡ Due n → n ≤ length lent → (r ≡ 0 → ⊥) → r ≡ 20
   unfolding page-rules first-unmet
-  measured-refused n e room = beside-due s _ (page-due s) (p .answer) n e (λ o. simp (le-leb (page-due s) (length lent) (omega (arith, o, room))))
+  measured-refused n e room = beside-due s _ (page-due s) (p .1 .answer) n e (λ o. simp (le-leb (page-due s) (length lent) (omega (arith, o, room))))
 
 -- an accepted sheet's page is what the program writes, of the length told
 module _ (s : List ℕ) (h : refusal-of s ≡ 0) where
@@ -72,8 +73,7 @@ module _ (s : List ℕ) (h : refusal-of s ≡ 0) where
 module _ (s lent : List ℕ) where
   -- any refusal leaves the buffer as it was
   refused-with : (r : ℕ) → r ≡ first-unmet (page-rules s (length lent)) → (r ≡ 0 → ⊥) → PagePromise computed-by table s lent r lent
-  refused-with r e n =
-      record { answer = e; unchanged = λ _. refl; written = λ o. absurd (n o); due = λ o. absurd (n o); table = tabulated; demand = λ o. absurd (n o) }
+  refused-with r e n = (tabulated, fills-refused (page-rules s (length lent)) (Written computed s lent) lent r e n)
 
   pub refused : (r : ℕ) → r ≡ refusal-of s → (r ≡ 0 → ⊥) → PagePromise computed-by table s lent r lent
   refused r e n = refused-with r (e ∙ sym (refused-page s (length lent) (λ o. n (e ∙ o)))) n
@@ -87,14 +87,14 @@ module _ (s lent : List ℕ) where
   unfolding first-unmet
   written left h n e =
       let long : 0 + length (page computed s) ≡ page-due s = omega (arith, page-length-is s h) in
+      let met : first-unmet (page-rules s (length lent)) ≡ 0 = last-of-page s (length lent) h ∙ simp (le-leb (page-due s) (length lent) n) in
+      let done : Written computed s lent left =
       record {
-        answer = sym (last-of-page s (length lent) h ∙ simp (le-leb (page-due s) (length lent) n));
-        unchanged = λ o. absurd (o refl);
-        written =
-            λ _. e ∙ ap (sets lent 0) (page-is s h)
+        text =
+            e ∙ ap (sets lent 0) (page-is s h)
             ∙ sets-eq (page computed s) lent 0 (omega (arith, long, n))
             ∙ ap (λ (k : ℕ). page computed s ++ drop k lent) long;
-        due = λ _. page-length-is s h;
-        table = tabulated;
-        demand = λ _. (answers s, answers-filled s, claim s (answers s) h (answers-filled s));
-      }
+        due = page-length-is s h;
+        demand = (answers s, claim s (answers s) h (answers-filled s));
+      } in
+      (tabulated, fills-done (page-rules s (length lent)) (Written computed s lent) lent left met done)

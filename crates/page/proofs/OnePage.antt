@@ -4,11 +4,10 @@
 use Prim.Native.Nat.{ℕ, _+_, _≤_}
 use mathlib.Core.Path.{_≡_, refl, ap, sym, _∙_}
 use mathlib.Core.List.{List, [], _∷_, _++_}
-use native.Mathlib.Decide.{decLe}
-use native.Mathlib.Omega.{arith}
 use lib.Dec.{leb}
 use lib.ListN.{length}
 use Rattle.records.specs.Rules.{_unless_, first-unmet}
+use Rattle.records.proofs.Fills.{fills-alike}
 use Rattle.janssen.specs.Numbers.{FillingNumbers}
 use Rattle.records.specs.Format.{place}
 use Rattle.sheet.specs.Refusal.{refusal-of}
@@ -45,25 +44,18 @@ module _ (s s' : List ℕ) where
         answers-alike s s' _ _ (loads-alike s s' (alike .refusals))
         (λ h. ap (λ (m : ℕ). first-unmet (18 unless leb m n ∷ [])) (due-same (accepted-alike s s' alike h .parts)))
 
-    module _ {f : List ℕ → FillingNumbers} {t lent left left' : List ℕ} {r r' : ℕ} (a : PagePromise f t s lent r left) (b : PagePromise f t s' lent r' left') where
-      answers-same : r ≡ r'
-      answers-same = a .answer ∙ answer-by (length lent) ∙ sym (b .answer)
+    accepted-by : (n : ℕ) → first-unmet (page-rules s n) ≡ 0 → refusal-of s ≡ 0
+    unfolding page-rules
+    accepted-by n h = sheet-met s _ h
 
-      accepted-by : r ≡ 0 → refusal-of s ≡ 0
-      unfolding page-rules
-      accepted-by h = sheet-met s _ (sym (a .answer) ∙ h)
-
-      left-by : Dec (r ≤ 0) → left ≡ left'
-      left-by (yes z) =
-          let h : r ≡ 0 = omega (arith, z) in
-          let o : OneSilo s s' = accepted-alike s s' alike (accepted-by h) in
-          let h' : r' ≡ 0 = sym answers-same ∙ h in
-          let (list, fill, _) = b .demand h' in
-          a .written h ∙ rw (page-same o (f t) list fill, due-same (o .parts)) refl ∙ sym (b .written h')
-      left-by (no n) = a .unchanged (λ z. n (omega (arith, z))) ∙ sym (b .unchanged (λ z. n (omega (arith, z, answers-same))))
-
-      pub one-page : (r ≡ r') × (left ≡ left')
-      one-page = (answers-same, left-by (decLe r 0))
+    pub one-page : (f : List ℕ → FillingNumbers) (t lent left left' : List ℕ) (r r' : ℕ) → PagePromise f t s lent r left → PagePromise f t s' lent r' left'
+        → (r ≡ r') × (left ≡ left')
+    one-page f t lent left left' r r' a b =
+        fills-alike (a .1) (b .1) (answer-by (length lent))
+        (λ h x y.
+        let o : OneSilo s s' = accepted-alike s s' alike (accepted-by (length lent) h) in
+        let (list, claim) = y .demand in
+        x .text ∙ rw (page-same o (f t) list (claim .filled), due-same (o .parts)) refl ∙ sym (y .text))
 
 -- a sheet of six records, and a headroom of 0 behind it
 module _ (s : List ℕ) (six : place s 6 ≡ length s) (short : length s + 8 ≤ 1024) where
@@ -72,7 +64,7 @@ module _ (s : List ℕ) (six : place s 6 ≡ length s) (short : length s + 8 ≤
 
   pub level-page : (f : List ℕ → FillingNumbers) (t lent left left' : List ℕ) (r r' : ℕ) → PagePromise f t s lent r left → PagePromise f t (s ++ level) lent r' left'
       → (r ≡ r') × (left ≡ left')
-  level-page f t lent left left' r r' a b = one-page s (s ++ level) (level-alike s six short) a b
+  level-page = one-page s (s ++ level) (level-alike s six short)
 
 -- a blank factor, and 155 written in
 module _ (s : List ℕ) (b : Blank s) where
@@ -81,4 +73,4 @@ module _ (s : List ℕ) (b : Blank s) where
 
   pub page-acts-as-155 : (f : List ℕ → FillingNumbers) (t lent left left' : List ℕ) (r r' : ℕ) → PagePromise f t s lent r left → PagePromise f t (with-factor 155 s) lent r' left'
       → (r ≡ r') × (left ≡ left')
-  page-acts-as-155 f t lent left left' r r' p q = one-page s (with-factor 155 s) (blank-alike s b) p q
+  page-acts-as-155 = one-page s (with-factor 155 s) (blank-alike s b)

@@ -5,21 +5,18 @@ use mathlib.Core.Path.{_≡_}
 use mathlib.Core.List.{List, _++_}
 use lib.ListN.{length, drop}
 use Rattle.exponential.specs.Table.{Tabulated}
-use Rattle.records.specs.Rules.{first-unmet}
+use Rattle.records.specs.Rules.{Fills}
 use Rattle.janssen.specs.Numbers.{FillingNumbers}
-use Rattle.answers.specs.Answers.{Filled}
 use Rattle.answers.specs.Claim.{Claim}
 use Rattle.page.specs.Page.{page, page-due, page-rules}
 
-pub record PagePromise (f : List ℕ → FillingNumbers) (t s lent : List ℕ) (r : ℕ) (left : List ℕ) : Type 0 where
-  -- 0, or the number of the first refusal
-  pub answer : r ≡ first-unmet (page-rules s (length lent))
-  -- refused: the buffer is as it was
-  pub unchanged : (r ≡ 0 → ⊥) → left ≡ lent
-  -- written: the page at its start, of exactly the length told, and the bytes past it as they were
-  pub written : r ≡ 0 → left ≡ page (f t) s ++ drop (page-due s) lent
-  pub due : r ≡ 0 → length (page (f t) s) ≡ page-due s
-  -- the table keeps its rule
-  pub table : Tabulated t
+pub record Written (f : FillingNumbers) (s lent left : List ℕ) : Type 0 where
+  -- the page at the buffer's start, of exactly the length told, and the bytes past it as they were
+  pub text : left ≡ page f s ++ drop (page-due s) lent
+  pub due : length (page f s) ≡ page-due s
   -- demand 3 holds of the same numbers in the answer list
-  pub demand : r ≡ 0 → (list : List ℕ) × Filled (f t) s list × Claim (f t) s list
+  pub demand : (list : List ℕ) × Claim f s list
+
+-- the table keeps its rule
+abbrev pub PagePromise : (List ℕ → FillingNumbers) → List ℕ → List ℕ → List ℕ → ℕ → List ℕ → Type 0
+PagePromise f t s lent r left = Tabulated t × Fills (page-rules s (length lent)) (Written (f t) s lent) lent r left

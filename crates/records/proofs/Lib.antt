@@ -1,5 +1,6 @@
 pub mod Tests
 pub mod Chain
+pub mod Fills
 pub mod Records
 pub mod Alike
 pub mod Numbers

@@ -11,6 +11,7 @@ use lib.Dec.{leb, eqb}
 use lib.ListN.{length, getD}
 use lib.IntN.{ℤ, pos, natAbs}
 use Rattle.records.specs.Rules.{_unless_, first-unmet}
+use Rattle.records.proofs.Fills.{fills-refused, fills-done}
 use Rattle.records.proofs.Chain.{met, apart, stopped, skipped}
 use Rattle.exponential.specs.program.Table.{table}
 use Rattle.exponential.proofs.TableLaws.{tabulated}
@@ -37,7 +38,7 @@ use Rattle.shell.specs.Shell.{folded, outward, size, p-ps, Round, patch-
 use Rattle.shell.specs.Holds.{ShellClaim}
 use Rattle.shell.specs.Promise.{ShellPromise}
 use Rattle.shell.proofs.Signs.{signed-size}
-use Rattle.shell.proofs.Quadrants.{folded-small, none}
+use Rattle.shell.proofs.Quadrants.{folded-small}
 use Rattle.shell.proofs.Bounds.{patch-fits, width-most, patch-rises, size-rises, force-rises}
 use Rattle.shell.proofs.Sizes.{size-holds}
 
@@ -89,8 +90,8 @@ shell-claim s z list h under r =
     let a = accepted s h .measured in
     let kept = holds (silo-of s) (silo-fits s a) p-p z (reached s a z under) in
     record {
+      filled = r;
       sizes = λ θ g. (size entry p (folded θ), r .pressures θ g, size-holds _ _ p (folded θ) (patch-fits s z h under) (folded-small θ g) kept);
-      none = (r .pressures 90 (omega arith) ∙ none p .0, r .pressures 270 (omega arith) ∙ none p .1);
       down = λ z' list' r' g u. lists-rise (d-c (section-of s)) p (patch-at computed s z') list list' r r' (patch-rises s z' h u z g);
     }
 
@@ -126,8 +127,7 @@ module _ (s : List ℕ) (z n : ℕ) where
 module _ (s : List ℕ) (z : ℕ) (lent : List ℤ) where
   -- any refusal leaves the list as it was
   refused-with : (r : ℕ) → r ≡ first-unmet (shell-rules s z (length lent)) → (r ≡ 0 → ⊥) → ShellPromise computed-by table entry s z lent r lent
-  refused-with r e n =
-      record { answer = e; unchanged = λ _. refl; filled = λ o. absurd (n o); table = tabulated; cosines = cosines-tabulated; demand = λ o. absurd (n o) }
+  refused-with r e n = (tabulated, cosines-tabulated, fills-refused (shell-rules s z (length lent)) (ShellClaim computed entry s z) lent r e n)
 
   pub refused : (r : ℕ) → r ≡ first-unmet (sheet-rules-at s z) → (r ≡ 0 → ⊥) → ShellPromise computed-by table entry s z lent r lent
   refused r e n = refused-with r (e ∙ sym (refused-shell s z (length lent) (λ o. n (e ∙ o)))) n
@@ -146,11 +146,5 @@ module _ (s : List ℕ) (z : ℕ) (lent : List ℤ) where
       unfolding first-unmet
       filled left n r =
           let a = accepted-at s z h in
-          record {
-            answer = sym (own-of-shell s z (length lent) h ∙ simp (c, eq-eqb (length lent) 361 n));
-            unchanged = λ o. absurd (o refl);
-            filled = λ _. r;
-            table = tabulated;
-            cosines = cosines-tabulated;
-            demand = λ _. shell-claim s z left (a .0) (a .1) r;
-          }
+          let met : first-unmet (shell-rules s z (length lent)) ≡ 0 = own-of-shell s z (length lent) h ∙ simp (c, eq-eqb (length lent) 361 n) in
+          (tabulated, cosines-tabulated, fills-done (shell-rules s z (length lent)) (ShellClaim computed entry s z) lent left met (shell-claim s z left (a .0) (a .1) r))

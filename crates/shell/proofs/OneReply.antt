@@ -4,7 +4,7 @@
 use Prim.Native.Nat.{ℕ, _+_, _*_, _≤_, _<_}
 use mathlib.Core.Path.{_≡_, refl, ap, sym, subst, _∙_}
 use mathlib.Core.List.{List, [], _∷_, _++_}
-use native.Mathlib.Decide.{decLe, decLt}
+use native.Mathlib.Decide.{decLt}
 use native.Mathlib.Omega.{arith}
 use lib.Dec.{leb, eqb}
 use lib.ListN.{length, getD}
@@ -16,6 +16,7 @@ use Rattle.janssen.specs.Section.{d-c}
 use Rattle.janssen.specs.Numbers.{FillingNumbers}
 use Rattle.records.specs.Format.{place}
 use Rattle.records.specs.Rules.{_unless_, first-unmet}
+use Rattle.records.proofs.Fills.{fills-alike}
 use Rattle.records.proofs.Chain.{chains-alike}
 use Rattle.description.specs.Silo.{depth-count, V-of}
 use Rattle.sheet.specs.Refusal.{sheet-rules-at}
@@ -71,29 +72,22 @@ module _ (s s' : List ℕ) (z : ℕ) (alike : Alike s s') where
       chains-alike (sheet-rules-at s z) (sheet-rules-at s' z) _ _ (rules-numbered (leb z (V-of s)) s) (rules-numbered (leb z (V-of s')) s') (alike .refusals .loads-at z)
       (λ h. ap (λ (c : Silo). first-unmet (19 unless is-circle (c .section) ∷ 14 unless eqb n 361 ∷ [])) (accepted-alike s s' alike (accepted-at s z h .0) .silos))
 
-  module _ {f : List ℕ → FillingNumbers} {t : List ℕ} {c : ℕ → ℕ} {lent left left' : List ℤ} {r r' : ℕ}
-      (a : ShellPromise f t c s z lent r left) (b : ShellPromise f t c s' z lent r' left') where
-    answers-same : r ≡ r'
-    answers-same = a .answer ∙ answer-by (length lent) ∙ sym (b .answer)
-
-    left-by : Dec (r ≤ 0) → left ≡ left'
-    left-by (yes o) =
-        let h : r ≡ 0 = omega arith in
-        let silos = accepted-alike s s' alike (shell-accepted s z (length lent) (sym (a .answer) ∙ h) .0) .silos in
-        round-once _ _ left left' (a .filled h)
-        (subst (λ (x : Silo). Round c (d-c (x .section)) (number (f t) x p-p z) left') (sym silos) (b .filled (sym answers-same ∙ h)))
-    left-by (no o) = a .unchanged (λ e. o (omega (arith, e))) ∙ sym (b .unchanged (λ e. o (omega (arith, e, answers-same))))
-
-    pub one-reply : (r ≡ r') × (left ≡ left')
-    one-reply = (answers-same, left-by (decLe r 0))
+  pub one-reply : (f : List ℕ → FillingNumbers) (t : List ℕ) (c : ℕ → ℕ) (lent left left' : List ℤ) (r r' : ℕ)
+      → ShellPromise f t c s z lent r left → ShellPromise f t c s' z lent r' left' → (r ≡ r') × (left ≡ left')
+  one-reply f t c lent left left' r r' a b =
+      fills-alike (a .2) (b .2) (answer-by (length lent))
+      (λ h x y.
+      let silos = accepted-alike s s' alike (shell-accepted s z (length lent) h .0) .silos in
+      round-once _ _ left left' (x .filled)
+      (subst (λ (x : Silo). Round c (d-c (x .section)) (number (f t) x p-p z) left') (sym silos) (y .filled)))
 
 module _ (f : List ℕ → FillingNumbers) (t : List ℕ) (c : ℕ → ℕ) (s : List ℕ) (z : ℕ) (lent left left' : List ℤ) (r r' : ℕ) where
   -- a sheet of six records, and a headroom of 0 behind it
   pub level-reply : place s 6 ≡ length s → length s + 8 ≤ 1024 → ShellPromise f t c s z lent r left
       → ShellPromise f t c (s ++ level) z lent r' left' → (r ≡ r') × (left ≡ left')
-  level-reply six short a b = one-reply s (s ++ level) z (level-alike s six short) a b
+  level-reply six short a b = one-reply s (s ++ level) z (level-alike s six short) f t c lent left left' r r' a b
 
   -- a blank factor, and 155 written in
   pub reply-acts-as-155 : Blank s → ShellPromise f t c s z lent r left → ShellPromise f t c (with-factor 155 s) z lent r' left'
       → (r ≡ r') × (left ≡ left')
-  reply-acts-as-155 blank a b = one-reply s (with-factor 155 s) z (blank-alike s blank) a b
+  reply-acts-as-155 blank a b = one-reply s (with-factor 155 s) z (blank-alike s blank) f t c lent left left' r r' a b

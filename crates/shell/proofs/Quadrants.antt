@@ -11,6 +11,7 @@ use lib.Seq.{getD-set-same, getD-set-other}
 use lib.IntN.{ℤ, pos, negℤ}
 use Rattle.fraction.specs.Fraction.{_⊘_, up}
 use Rattle.fraction.proofs.Up.{up-zero}
+use Rattle.cosine.specs.Cosine.{CosineTable}
 use Rattle.cosine.specs.program.Table.{entry}
 use Rattle.cosine.proofs.CosineLaws.{tabulated}
 use Rattle.shell.specs.Shell.{apart, folded, outward, size, p-ps, F-p, Round}
@@ -21,10 +22,10 @@ unfolding folded apart
 folded-small θ h = omega arith
 
 -- there is none at 90 degrees
-size-none : (p : ℕ) → size entry p 90 ≡ 0
+size-none : (c : ℕ → ℕ) (p : ℕ) → c 90 ≡ 0 → size c p 90 ≡ 0
 unfolding size
-size-none p =
-    let e : p * entry 90 ≡ 0 = ap (λ (x : ℕ). p * x) (tabulated .exact .2) ∙ omega arith in
+size-none c p z =
+    let e : p * c 90 ≡ 0 = ap (λ (x : ℕ). p * x) z ∙ omega arith in
     ap (λ (x : ℕ). up (x ⊘ 1000000000)) e ∙ up-zero 1000000000 (omega arith)
 
 -- at most 90 degrees from 0, and at most 90 degrees from 180
@@ -44,12 +45,14 @@ far p θ d e h = go (decLe d 89)
         rw (e, f) (simp (lt-leb (180 - d) 90 (omega arith)))
     go (no l) =
         let g : d ≡ 90 = omega arith in
-        near entry p θ 90 (e ∙ omega arith) (omega arith) ∙ rw (g, size-none p) refl
+        near entry p θ 90 (e ∙ omega arith) (omega arith) ∙ rw (g, size-none entry p (tabulated .exact .2)) refl
 
--- none at 90 and 270 degrees
-pub none : (p : ℕ) → (p-ps entry p 90 ≡ pos 0) × (p-ps entry p 270 ≡ pos 0)
+-- none at 90 and 270 degrees, by any table that keeps its rule
+pub none : (c : ℕ → ℕ) (d p : ℕ) (list : List ℤ) → CosineTable c → Round c d p list → (getD list 90 (pos 0) ≡ pos 0) × (getD list 270 (pos 0) ≡ pos 0)
 unfolding apart
-none p = (near entry p 90 90 refl (omega arith) ∙ ap pos (size-none p), near entry p 270 90 refl (omega arith) ∙ ap pos (size-none p))
+none c d p list t r =
+    let zero-size = ap pos (size-none c p (t .exact .2)) in
+    (r .pressures 90 (omega arith) ∙ near c p 90 90 refl (omega arith) ∙ zero-size, r .pressures 270 (omega arith) ∙ near c p 270 90 refl (omega arith) ∙ zero-size)
 
 -- a number stored that is right in its place is right there, and keeps what is right elsewhere
 set-right : (l : List ℤ) (k θ : ℕ) (v x : ℤ) → k < length l → θ ≡ k → v ≡ x → getD (set l k v) θ (pos 0) ≡ x

@@ -1,4 +1,4 @@
--- The sizes round the shell keep their allowance where p_p keeps its own (`size-holds`). At or above: F·cos ≤ F·t ≤ p_p·t ≤ size. Less than 5 above:
+-- The sizes round the shell keep their allowance where p_p keeps its own (`size-holds`; `above-lower`). At or above: F·cos ≤ F·t ≤ p_p·t ≤ size. Less than 5 above:
 -- size < p_p·t + 1, p_p < F + 3, t ≤ 1 and t < cos + 2·10^-9, and F·2·10^-9 is below 1.
 use Prim.Native.Nat.{ℕ, _+_, _*_, _^_, _≤_, _<_}
 use native.Mathlib.Omega.{arith}
@@ -7,11 +7,11 @@ use Rattle.fraction.specs.Fraction.{Fraction, whole, _⊕_, _⊗_, _⪯_, _≺_
 use Rattle.fraction.proofs.Order.{⪯-refl, ⪯-trans, ≺-⪯-trans, ≺-⪯, ⊕-mono, ⊗-mono}
 use Rattle.fraction.proofs.Up.{up-above, up-lt}
 use Rattle.allowance.specs.Allowance.{Allowance}
-use Rattle.cosine.specs.Cosine.{billionths}
+use Rattle.cosine.specs.Cosine.{AtMost, cosine-below, billionths}
 use Rattle.cosine.specs.program.Table.{entry}
 use Rattle.cosine.proofs.CosineLaws.{tabulated, no-sum-above, entry-most}
 use Rattle.shell.specs.Shell.{size}
-use Rattle.shell.specs.Holds.{SizeHolds}
+use Rattle.shell.specs.Holds.{scaled, SizeHolds}
 
 -- f·(t + l) = f·t + f·l
 spread : (f t l : Fraction) → 0 < f .bottom → 0 < t .bottom → 0 < l .bottom → f ⊗ (t ⊕ l) ⪯ f ⊗ t ⊕ f ⊗ l
@@ -65,6 +65,15 @@ module _ (f m l t p : Fraction) (hf : 0 < f .bottom) (ht : 0 < t .bottom) (hl : 
       (⪯-trans given
       (⪯-trans (⊕-mono (⪯-refl (f ⊗ m) (mul-pos hf hm)) (⊕-mono hs (⪯-refl (whole 4) (omega arith)))) five)))))
 
+-- no product of F over a lower fraction and a lower sum of the cosine is above the size
+pub above-lower : {A : Type 0} (Low : A → Type 0) (F : A → Fraction) (p d : ℕ) → d < 91 → Allowance Low F 3 p → (v : A) → Low v → (n : ℕ)
+    → AtMost (scaled (F v) (cosine-below d n)) (whole (size entry p d))
+unfolding size
+above-lower Low F p d hd a v low n =
+    let t : Fraction = billionths (entry d) in
+    let b = no-sum-above d n hd in
+    above (F v) _ _ t (whole p) (whole (up (whole p ⊗ t))) (omega (arith, b .right)) b (omega arith) (a .at-or-above v low) (up-above (whole p ⊗ t) (omega arith))
+
 -- the sizes keep their allowance where p_p keeps its own, at any formula F
 pub size-holds : {A : Type 0} (Low : A → Type 0) (F : A → Fraction) (p d : ℕ) → p < 2 ^ 21 → d < 91 → Allowance Low F 3 p → SizeHolds Low F 5 d (size entry p d)
 unfolding size
@@ -79,10 +88,7 @@ size-holds Low F p d hp hd a =
     let close : whole n ≺ whole p ⊗ t ⊕ whole 1 = record { left = omega arith; right = omega arith; order = omega (arith, up-lt (p * entry d) 1000000000 (omega arith)) } in
     let reaches = up-above (whole p ⊗ t) (omega arith) in
     record {
-      at-or-above = λ x low m.
-          let b = no-sum-above d m hd in
-          above (F x) _ _ t (whole p) (whole n) (omega (arith, b .right)) b (omega arith) (a .at-or-above x low) reaches;
-      above-upper = λ x low. (
+      at-or-above = λ x low. (
         u .0,
         above (F x) _ _ t (whole p) (whole n) (omega (arith, u .1 .right)) (u .1) (omega arith) (a .at-or-above x low) reaches,
       );

@@ -18,20 +18,17 @@ scaled F c = record { more = F ⊗ c .more; less = F ⊗ c .less }
 
 -- a size beside F·cos d, F being p_p's unrounded formula over lower fractions and d from 0 to 90 degrees
 pub record SizeHolds {A : Type 0} (Low : A → Type 0) (F : A → Fraction) (w d size : ℕ) : Type 0 where
-  -- at or above every product of F over a lower fraction and a lower sum of the cosine
-  pub at-or-above : (v : A) → Low v → (n : ℕ) → AtMost (scaled (F v) (cosine-below d n)) (whole size)
-  -- and with some upper sum, which the cosine is not above
-  pub above-upper : (v : A) → Low v → (n : ℕ) × AtMost (scaled (F v) (cosine-above d n)) (whole size)
+  -- at or above every product of F over a lower fraction and some upper sum, which the cosine is not above
+  pub at-or-above : (v : A) → Low v → (n : ℕ) × AtMost (scaled (F v) (cosine-above d n)) (whole size)
   -- less than w above some product of F over a lower fraction and a lower sum
   pub less-above : (v : A) × Low v × (n : ℕ) × LessAbove (whole w) (scaled (F v) (cosine-below d n)) (whole size)
 
 -- the reply list for the depth z
 pub record ShellClaim (f : FillingNumbers) (c : ℕ → ℕ) (s : List ℕ) (z : ℕ) (list : List ℤ) : Type 0 where
-  -- each pressure has its sign, and its size keeps the allowance
+  -- every number in its place; each pressure has its sign, and its size keeps the allowance
+  pub filled : RoundOf f c s z list
   pub sizes : (θ : ℕ) → θ < 360
       → (n : ℕ) × (getD list θ (pos 0) ≡ signed (outward θ) n) × SizeHolds (LowerAt horizontal (silo-of s) z) (exact-patch (silo-of s)) 5 (folded θ) n
-  -- none at 90 and 270 degrees
-  pub none : (getD list 90 (pos 0) ≡ pos 0) × (getD list 270 (pos 0) ≡ pos 0)
   -- going down, no size falls, and the force neither
   pub down : (z' : ℕ) (list' : List ℤ) → RoundOf f c s z' list' → z ≤ z' → z' ≤ V-of s → (i : ℕ) → i < 361
       → natAbs (getD list i (pos 0)) ≤ natAbs (getD list' i (pos 0))

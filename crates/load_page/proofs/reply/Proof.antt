@@ -22,7 +22,7 @@ put-refused-requires c κs =
     let start = c .before .before .before .before .before .before .before .before in
     let a = start .args in
     let s = a .sheet .now in
-    let answer = called .ensures .answer ∙ sheet-answer s (length (a .out .now)) (start .pre) in
+    let answer = called .ensures .1 .answer ∙ sheet-answer s (length (a .out .now)) (start .pre) in
     (omega (arith, answer, refusal-small s), omega (arith, start .pre, called .kept .1 .0))
 
 same-length : tie.Need-same-length
@@ -37,7 +37,7 @@ returns c =
     let s = a .sheet .now in
     let r = called .result in
     let left = called .last .1 .0 in
-    let answer = called .ensures .answer ∙ sheet-answer s (length (a .out .now)) (start .pre) in
+    let answer = called .ensures .1 .answer ∙ sheet-answer s (length (a .out .now)) (start .pre) in
     let room : 0 + length (refused-text r) ≤ length left =
     omega (arith, refused-length r (omega (arith, answer, refusal-small s)), start .pre, called .kept .1 .0) in
     subst (AtStart (put .result) (put .last .0)) (refused-is s r answer (c .before .before .before .before .if1 .taken))
@@ -56,10 +56,10 @@ returns-2 c =
     let a = start .args in
     let s = a .sheet .now in
     let none = c .before .if1 .left in
-    let accepted = sym (sheet-answer s (length (a .out .now)) (start .pre)) ∙ sym (called .ensures .answer) ∙ none in
+    let accepted = sym (sheet-answer s (length (a .out .now)) (start .pre)) ∙ sym (called .ensures .1 .answer) ∙ none in
     subst (AtStart (c .page-bytes .result) (called .last .1 .0)) (page-printed s accepted)
-    (at-start (page computed s) (drop (page-due s) (a .out .now)) (called .last .1 .0) (c .page-bytes .result) (c .page-bytes .ensures accepted ∙ sym (called .ensures .due none))
-    (called .ensures .written none))
+    (at-start (page computed s) (drop (page-due s) (a .out .now)) (called .last .1 .0) (c .page-bytes .result) (c .page-bytes .ensures accepted ∙ sym (called .ensures .1 .done none .due))
+    (called .ensures .1 .done none .text))
 
 pub reply-spec : {M : Type 1} → statement M
 reply-spec =
