@@ -13,11 +13,12 @@ use Rattle.sheet.specs.Refusal.{refusal-of}
 use Rattle.sheet.proofs.Acceptance.{accepted}
 use Rattle.sheet.proofs.Described.{V-most, edge-most}
 use Rattle.loads.specs.Load.{Load}
-use Rattle.loads.specs.Load.{number}
+use Rattle.loads.specs.Load.{eight, number}
 use Rattle.loads.specs.Load.Load.{listed-depth, p-hf, p-wf, p-vf, P-w, p-he, p-we, p-p}
 use Rattle.loads.specs.Bound.{bound}
 use Rattle.loads.proofs.Bounds.{within-bound, bottom-within}
-use Rattle.answers.specs.Answers.{silo-of, depth, load-in, bottom-in, strake-in, Filled}
+use Rattle.answers.specs.Place.{load-place}
+use Rattle.answers.specs.Answers.{silo-of, depth, bottom-in, strake-in, Filled}
 use Rattle.answers.proofs.Places.{every-place}
 use Rattle.answers.proofs.Demand.{silo-fits}
 
@@ -37,9 +38,9 @@ module _ (s list : List ℕ) (h : refusal-of s ≡ 0) (fill : Filled computed s 
   eight-down : (l : Load) (depth : ℕ) → depth ≤ 72000 → number computed (silo-of s) l depth < 10 ^ 8
   eight-down l depth g = omega (arith, within-bound (silo-of s) (silo-fits s (accepted s h .measured)) l depth, bound-small l depth g)
 
-  pub eight-digits : (l : Load) (i : ℕ) → i < depth-count s → load-in s list l i < 10 ^ 8
-  eight-digits l i g =
-      omega (arith, fill .at-depths l i g, eight-down l (depth s i) (omega (arith, accepted s h .measured .depths-most i g, V-most s (accepted s h .measured))))
+  pub eight-digits : (r i : ℕ) → r < 8 → i < depth-count s → getD list (load-place (depth-count s) r i) 0 < 10 ^ 8
+  eight-digits r i l g =
+      omega (arith, fill .at-depths r i l g, eight-down (getD eight r listed-depth) (depth s i) (omega (arith, accepted s h .measured .depths-most i g, V-most s (accepted s h .measured))))
 
   bottom-digits : (k : ℕ) → k < 10 → bottom-in s list k < 10 ^ 9
   bottom-digits k g = omega (arith, fill .at-bottom k g, bottom-within (silo-of s) (silo-fits s (accepted s h .measured)) k g)
@@ -53,5 +54,5 @@ module _ (s list : List ℕ) (h : refusal-of s ≡ 0) (fill : Filled computed s 
     where
       go : Dec (i < length list) → getD list i 0 < 10 ^ 9
       go (yes g) =
-          every-place s (λ n. getD list n 0 < 10 ^ 9) (λ l i u. omega (arith, eight-digits l i u)) bottom-digits strake-digits i (omega (arith, fill .due))
+          every-place s (λ n. getD list n 0 < 10 ^ 9) (λ r i v u. omega (arith, eight-digits r i v u)) bottom-digits strake-digits i (omega (arith, fill .due))
       go (no g) = omega (arith, List·getD-eq-default list 0 {n = i} (omega arith))

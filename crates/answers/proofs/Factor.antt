@@ -31,10 +31,11 @@ use Rattle.loads.specs.Load.{number, bottom-numbers}
 use Rattle.loads.specs.Load.Load.{p-he, p-we, p-p}
 use Rattle.loads.proofs.WithFactor.{product-with, silo-with, number-with, p-we-with, bottom-with, p-he-less, p-p-less}
 use Rattle.answers.specs.Length.{answers-length}
-use Rattle.answers.specs.Answers.{silo-of, depth, load-in}
-use Rattle.answers.specs.Order.{LeftFor}
+use Rattle.answers.specs.Answers.{silo-of, depth}
+use Rattle.answers.specs.Order.{load-in, LeftFor}
 use Rattle.answers.specs.Promise.{Promise}
 use Rattle.answers.specs.Factor.{with-factor, Blank, NoSmaller}
+use Rattle.answers.proofs.Places.{at-load}
 use Rattle.answers.proofs.Demand.{two-records, silo-fits}
 use Rattle.answers.proofs.OneSilo.{Alike, depths-by, strakes-by, one-length, one-call}
 
@@ -176,14 +177,14 @@ module _ (f : FillingNumbers) (s : List ℕ) (c : ℕ) (least : 100 ≤ c) (most
       let at : (l : Load) (i : ℕ) → i < depth-count s → load-in s' list' l i ≡ number f (silo-with c (silo-of s)) l (depth s i) =
       λ l i h. depths-by s s' m f list' (a' .filled) l i h ∙ ap (λ (x : Silo). number f x l (depth s i)) silo in
       record {
-        p-he-no-smaller = λ i h. rw (at p-he i h, a .filled .at-depths p-he i h) (p-he-less f c (silo-of s) fits least most (depth s i));
-        patch-no-smaller = λ i h. rw (at p-p i h, a .filled .at-depths p-p i h) (p-p-less f c (silo-of s) fits least most (depth s i));
+        p-he-no-smaller = λ i h. rw (at p-he i h, at-load (a .filled) p-he i h) (p-he-less f c (silo-of s) fits least most (depth s i));
+        patch-no-smaller = λ i h. rw (at p-p i h, at-load (a .filled) p-p i h) (p-p-less f c (silo-of s) fits least most (depth s i));
         strakes-no-smaller =
             λ k h.
             let there = strakes-by s s' m f list' (a' .filled) k h ∙ ap (λ (x : Silo). number f x p-he (edge-of s (suc k))) silo in
             rw (there, a .filled .at-strakes k h) (p-he-less f c (silo-of s) fits least most (edge-of s (suc k)));
-        filling-same = λ l o i h. a .filled .at-depths l i h ∙ sym (at l i h ∙ number-with f c (silo-of s) o (depth s i));
-        p-we-same = λ i h. a .filled .at-depths p-we i h ∙ sym (at p-we i h ∙ p-we-with f c (silo-of s) (depth s i));
+        filling-same = λ l o i h. at-load (a .filled) l i h ∙ sym (at l i h ∙ number-with f c (silo-of s) o (depth s i));
+        p-we-same = λ i h. at-load (a .filled) p-we i h ∙ sym (at p-we i h ∙ p-we-with f c (silo-of s) (depth s i));
         bottom-same =
             λ k h. a .filled .at-bottom k h
             ∙ sym (a' .filled .at-bottom k h ∙ ap (λ (x : Silo). getD (bottom-numbers f x) k 0) silo ∙ ap (λ (x : List ℕ). getD x k 0) (bottom-with f c (silo-of s)));

@@ -24,9 +24,11 @@ use Rattle.loads.specs.Load.{Load}
 use Rattle.loads.specs.Load.{FillingLoad, load-depth, number}
 use Rattle.loads.specs.Load.Load.{p-vf}
 use Rattle.answers.specs.Length.{answers-length}
-use Rattle.answers.specs.Answers.{silo-of, depth, load-in, Filled}
+use Rattle.answers.specs.Answers.{silo-of, depth, Filled}
+use Rattle.answers.specs.Order.{load-in}
 use Rattle.answers.specs.Claim.{SameSectionAndProduct, Claim}
 use Rattle.answers.specs.Promise.{Promise}
+use Rattle.answers.proofs.Places.{at-load}
 use Rattle.answers.proofs.Order.{lists-ordered}
 use Rattle.answers.proofs.OneSilo.{Alike, one-length, one-call}
 
@@ -105,4 +107,4 @@ level-sheet f s s' list list' ok ok' a b same brim l o i j h k e =
 -- the pressure on floor and hopper is the one that the list has for z = V
 pub foot-listed : (f : FillingNumbers) (s list : List ℕ) → Filled f s list → (i : ℕ) → i < depth-count s → depth s i ≡ V-of s
     → number f (silo-of s) p-vf (silo-of s .foot) ≡ load-in s list p-vf i
-foot-listed f s list a i h e = sym (a .at-depths p-vf i h ∙ ap (number f (silo-of s) p-vf) e)
+foot-listed f s list a i h e = sym (at-load a p-vf i h ∙ ap (number f (silo-of s) p-vf) e)

@@ -17,13 +17,14 @@ use Rattle.sheet.proofs.Acceptance.{measured}
 use Rattle.sheet.proofs.Parts.{SameParts, RefusedAlike, loads-alike}
 use Rattle.loads.specs.declared.Silo.{Silo}
 use Rattle.loads.specs.Load.{Load}
-use Rattle.loads.specs.Load.{number, bottom-numbers}
-use Rattle.loads.specs.Load.Load.{p-he}
+use Rattle.loads.specs.Load.{eight, number, bottom-numbers}
+use Rattle.loads.specs.Load.Load.{listed-depth, p-he}
 use Rattle.answers.specs.Place.{load-place, bottom-place, strake-place}
 use Rattle.answers.specs.Length.{length-due, answers-length}
-use Rattle.answers.specs.Answers.{silo-of, depth, load-in, strake-in, Filled, loads-rules}
+use Rattle.answers.specs.Answers.{silo-of, depth, strake-in, Filled, loads-rules}
+use Rattle.answers.specs.Order.{load-in}
 use Rattle.answers.specs.Promise.{Promise}
-use Rattle.answers.proofs.Places.{filled-once}
+use Rattle.answers.proofs.Places.{at-load, filled-once}
 use Rattle.answers.proofs.LengthLaws.{told-same}
 use Rattle.answers.proofs.Call.{not-refused}
 
@@ -44,10 +45,17 @@ module _ (s s' : List ℕ) where
 
   -- the numbers of the other's list, at the depths and edges of s
   module _ (p : SameParts s s') (f : FillingNumbers) (list : List ℕ) (a : Filled f s' list) where
+    listed : (i : ℕ) → i < depth-count s → i < depth-count s'
+    listed i h = subst (λ (n : ℕ). i < n) (p .depth-counts) h
+
+    depth-same : (i : ℕ) → depth s' i ≡ depth s i
+    depth-same i = ap (λ (d : List ℕ). getD d i 0) (sym (p .depths))
+
+    numbers-by : (r i : ℕ) → r < 8 → i < depth-count s → getD list (load-place (depth-count s') r i) 0 ≡ number f (silo-of s') (getD eight r listed-depth) (depth s i)
+    numbers-by r i g h = a .at-depths r i g (listed i h) ∙ ap (number f (silo-of s') (getD eight r listed-depth)) (depth-same i)
+
     pub depths-by : (l : Load) (i : ℕ) → i < depth-count s → load-in s' list l i ≡ number f (silo-of s') l (depth s i)
-    depths-by l i h =
-        a .at-depths l i (subst (λ (n : ℕ). i < n) (p .depth-counts) h)
-        ∙ ap (λ (d : List ℕ). number f (silo-of s') l (getD d i 0)) (sym (p .depths))
+    depths-by l i h = at-load a l i (listed i h) ∙ ap (number f (silo-of s') l) (depth-same i)
 
     pub strakes-by : (k : ℕ) → k < strake-count s → strake-in s' list k ≡ number f (silo-of s') p-he (edge-of s (suc k))
     unfolding edge-of
@@ -64,9 +72,9 @@ module _ (s s' : List ℕ) where
       record {
         due = a .due ∙ sym (due-same p);
         at-depths =
-            λ l i h. ap (λ (n : ℕ). getD list (load-place n l i) 0) count
-            ∙ depths-by p f list a l i h
-            ∙ ap (λ (c : Silo). number f c l (depth s i)) silo;
+            λ r i g h. ap (λ (n : ℕ). getD list (load-place n r i) 0) count
+            ∙ numbers-by p f list a r i g h
+            ∙ ap (λ (c : Silo). number f c (getD eight r listed-depth) (depth s i)) silo;
         at-bottom =
             λ k h. ap (λ (n : ℕ). getD list (bottom-place n k) 0) count
             ∙ a .at-bottom k h

@@ -23,10 +23,10 @@ use Rattle.loads.specs.Load.{Load}
 use Rattle.loads.specs.Load.{FillingLoad, load-depth}
 use Rattle.loads.specs.Load.Load.{listed-depth, p-hf, p-wf, p-vf, P-w, p-he, p-we, p-p}
 use Rattle.loads.proofs.LoadLaws.{load-depth-rises}
-use Rattle.answers.specs.Place.{rank}
-use Rattle.answers.specs.Answers.{silo-of, depth, load-in, strake-in}
+use Rattle.answers.specs.Answers.{silo-of, depth, strake-in}
 use Rattle.answers.specs.Claim.{SameSectionAndProduct, Claim}
-use Rattle.answers.specs.Order.{Ordered}
+use Rattle.answers.specs.Order.{rank, load-in, Ordered}
+use Rattle.answers.proofs.Places.{at-load}
 
 ordered-by : {x y n m : ℕ} → (x ≤ y → n ≤ m) → (y ≤ x → m ≤ n) → Ordered x y n m
 ordered-by up back = record { rises = up; falls = back; same = λ e. le-antisymm (up (omega arith)) (back (omega arith)) }
@@ -70,13 +70,13 @@ module _ (f : FillingNumbers) (s list : List ℕ) (h : refusal-of s ≡ 0) (clai
   pub judged : (l : Load) → (l ≡ listed-depth → ⊥) → (i j : ℕ) → i < depth-count s → j < depth-count s
       → Ordered (load-depth c (depth s i)) (load-depth c (depth s j)) (load-in s list l i) (load-in s list l j)
   judged l o i j g n =
-      rw (claim .filled .at-depths l i g, claim .filled .at-depths l j n)
+      rw (at-load (claim .filled) l i g, at-load (claim .filled) l j n)
       (ordered-by (claim .down l o (depth s i) (depth s j) (depth-under j n)) (claim .down l o (depth s j) (depth s i) (depth-under i g)))
 
   pub strakes-judged : (i k : ℕ) → i < depth-count s → k < strake-count s
       → Ordered (load-depth c (depth s i)) (load-depth c (edge-of s (suc k))) (load-in s list p-he i) (strake-in s list k)
   strakes-judged i k g n =
-      rw (claim .filled .at-depths p-he i g, claim .filled .at-strakes k n)
+      rw (at-load (claim .filled) p-he i g, claim .filled .at-strakes k n)
       (ordered-by (claim .down p-he p-he-load (depth s i) (edge-of s (suc k)) (edge-most s (suc k)))
       (claim .down p-he p-he-load (edge-of s (suc k)) (depth s i) (depth-under i g)))
 
@@ -84,7 +84,7 @@ module _ (f : FillingNumbers) (s list : List ℕ) (h : refusal-of s ≡ 0) (clai
   further-down l i j g n u =
       ⊎-elim
       (λ e. subst (λ (x : Load). load-in s list x i ≤ load-in s list x j) (sym e)
-      (rw (claim .filled .at-depths listed-depth i g, claim .filled .at-depths listed-depth j n) u))
+      (rw (at-load (claim .filled) listed-depth i g, at-load (claim .filled) listed-depth j n) u))
       (λ o. judged l o i j g n .rises (load-depth-rises c (depth s i) (depth s j) u)) (which l)
 
   pub down : (l : Load) (i j : ℕ) → i ≤ j → j < depth-count s → load-in s list l i ≤ load-in s list l j
@@ -107,6 +107,6 @@ pub lists-ordered : (f : FillingNumbers) (s s' list list' : List ℕ) → refusa
     → SameSectionAndProduct s s' → (l : Load) → FillingLoad l → (i j : ℕ) → i < depth-count s → j < depth-count s'
     → Ordered (load-depth (silo-of s) (depth s i)) (load-depth (silo-of s') (depth s' j)) (load-in s list l i) (load-in s' list' l j)
 lists-ordered f s s' list list' h h' a b e l o i j g n =
-    rw (a .filled .at-depths l i g, b .filled .at-depths l j n)
+    rw (at-load (a .filled) l i g, at-load (b .filled) l j n)
     (ordered-by (a .ordered s' h' e l o (depth s i) (depth s' j) (accepted s' h' .measured .depths-most j n))
     (b .ordered s h (sym e) l o (depth s' j) (depth s i) (accepted s h .measured .depths-most i g)))

@@ -15,12 +15,13 @@ use Rattle.description.specs.Silo.{strakes-of, strake-count, depth-count, edge-
 use Rattle.description.proofs.Walls.{strakes-length}
 use Rattle.loads.specs.declared.Silo.{Silo}
 use Rattle.loads.specs.Load.{Load}
-use Rattle.loads.specs.Load.{number, bottom-numbers}
+use Rattle.loads.specs.Load.{eight, number, bottom-numbers}
 use Rattle.loads.specs.Load.Load.{listed-depth, p-hf, p-wf, p-vf, P-w, p-he, p-we, p-p}
 use Rattle.loads.specs.program.Basis.{depth-numbers}
-use Rattle.answers.specs.Place.{rank, load-place, bottom-place, strake-place}
+use Rattle.answers.specs.Place.{load-place, bottom-place, strake-place}
 use Rattle.answers.specs.Length.{length-due}
-use Rattle.answers.specs.Answers.{silo-of, depth, load-in, bottom-in, strake-in, Filled}
+use Rattle.answers.specs.Answers.{silo-of, depth, bottom-in, strake-in, Filled}
+use Rattle.answers.specs.Order.{load-in}
 use Rattle.answers.specs.program.Fill.{at-strake, at-depth, depths-part, bottom-part, strakes-part, answers}
 use Rattle.answers.proofs.Stores.{each-length, part-at}
 
@@ -28,17 +29,22 @@ pub length-at-depth : (s : List ℕ) (i : ℕ) → length (at-depth s i) ≡ 8
 unfolding depth-numbers
 length-at-depth s i = refl
 
--- each load in its rank
-ranked : (c : Silo) (x : ℕ) (l : Load) → (rank l < 8) × (getD (depth-numbers c x) (rank l) 0 ≡ number computed c l x)
+-- a property of each of a depth's eight
+by-eight : (E : ℕ → Type 0) → E 0 → E 1 → E 2 → E 3 → E 4 → E 5 → E 6 → E 7 → (r : ℕ) → r < 8 → E r
+by-eight E a b c d e f g h zero l = a
+by-eight E a b c d e f g h (suc zero) l = b
+by-eight E a b c d e f g h (suc (suc zero)) l = c
+by-eight E a b c d e f g h (suc (suc (suc zero))) l = d
+by-eight E a b c d e f g h (suc (suc (suc (suc zero)))) l = e
+by-eight E a b c d e f g h (suc (suc (suc (suc (suc zero))))) l = f
+by-eight E a b c d e f g h (suc (suc (suc (suc (suc (suc zero)))))) l = g
+by-eight E a b c d e f g h (suc (suc (suc (suc (suc (suc (suc zero))))))) l = h
+by-eight E a b c d e f g h (suc (suc (suc (suc (suc (suc (suc (suc r)))))))) l = absurd (omega arith)
+
+-- each number of a depth in its order
+numbered : (c : Silo) (x r : ℕ) → r < 8 → getD (depth-numbers c x) r 0 ≡ number computed c (getD eight r listed-depth) x
 unfolding depth-numbers
-ranked c x listed-depth = (omega arith, refl)
-ranked c x p-hf = (omega arith, refl)
-ranked c x p-wf = (omega arith, refl)
-ranked c x p-vf = (omega arith, refl)
-ranked c x P-w = (omega arith, refl)
-ranked c x p-he = (omega arith, refl)
-ranked c x p-we = (omega arith, refl)
-ranked c x p-p = (omega arith, refl)
+numbered c x = by-eight (λ (r : ℕ). getD (depth-numbers c x) r 0 ≡ number computed c (getD eight r listed-depth) x) refl refl refl refl refl refl refl refl
 
 ten-of : (b : Bool) (xs ys : List ℕ) → length xs ≡ 10 → length ys ≡ 10 → length (cond b xs ys) ≡ 10
 ten-of true xs ys h g = h
@@ -64,15 +70,13 @@ module _ (s : List ℕ) where
   unfolding answers length-due
   length-answers = simp length-append (omega (arith, length-depths-part, length-bottom-part, length-strakes-part))
 
-  -- a load of the depth i
-  load-at : (l : Load) (i : ℕ) → i < depth-count s → load-in s (answers s) l i ≡ number computed c l (depth s i)
+  -- number r of the depth i
+  load-at : (r i : ℕ) → r < 8 → i < depth-count s → getD (answers s) (load-place (depth-count s) r i) 0 ≡ number computed c (getD eight r listed-depth) (depth s i)
   unfolding answers
-  load-at l i h =
-      let n = depth-count s in
-      let r = ranked c (depth s i) l in
-      List·getD-append (depths-part s) _ 0 (8 * i + rank l) (omega (arith, r .0, length-depths-part))
-      ∙ part-at (at-depth s) 8 (length-at-depth s) n (8 * i + rank l) i (rank l) refl h (r .0)
-      ∙ r .1
+  load-at r i l h =
+      List·getD-append (depths-part s) _ 0 (8 * i + r) (omega (arith, length-depths-part))
+      ∙ part-at (at-depth s) 8 (length-at-depth s) (depth-count s) (8 * i + r) i r refl h l
+      ∙ numbered c (depth s i) r l
 
   -- number k of the bottom
   bottom-at : (k : ℕ) → k < 10 → bottom-in s (answers s) k ≡ getD (bottom-numbers computed c) k 0
@@ -98,17 +102,17 @@ module _ (s : List ℕ) where
   pub answers-filled : Filled computed s (answers s)
   answers-filled = record { due = length-answers; at-depths = load-at; at-bottom = bottom-at; at-strakes = strake-at }
 
--- the load that stands at n among a depth's eight
-load-ranked : (n : ℕ) → n < 8 → (l : Load) × (rank l ≡ n)
-load-ranked zero h = (listed-depth, refl)
-load-ranked (suc zero) h = (p-hf, refl)
-load-ranked (suc (suc zero)) h = (p-wf, refl)
-load-ranked (suc (suc (suc zero))) h = (p-vf, refl)
-load-ranked (suc (suc (suc (suc zero)))) h = (P-w, refl)
-load-ranked (suc (suc (suc (suc (suc zero))))) h = (p-he, refl)
-load-ranked (suc (suc (suc (suc (suc (suc zero)))))) h = (p-we, refl)
-load-ranked (suc (suc (suc (suc (suc (suc (suc zero))))))) h = (p-p, refl)
-load-ranked (suc (suc (suc (suc (suc (suc (suc (suc n)))))))) h = absurd (omega arith)
+-- a load by its name
+pub at-load : {f : FillingNumbers} {s list : List ℕ} → Filled f s list → (l : Load) (i : ℕ) → i < depth-count s
+    → load-in s list l i ≡ number f (silo-of s) l (depth s i)
+at-load a listed-depth i h = a .at-depths 0 i (omega arith) h
+at-load a p-hf i h = a .at-depths 1 i (omega arith) h
+at-load a p-wf i h = a .at-depths 2 i (omega arith) h
+at-load a p-vf i h = a .at-depths 3 i (omega arith) h
+at-load a P-w i h = a .at-depths 4 i (omega arith) h
+at-load a p-he i h = a .at-depths 5 i (omega arith) h
+at-load a p-we i h = a .at-depths 6 i (omega arith) h
+at-load a p-p i h = a .at-depths 7 i (omega arith) h
 
 -- what holds of the first a indices and of the b after them
 by-parts : (E : ℕ → Type 0) (a b : ℕ) → ((i : ℕ) → i < a → E i) → ((k : ℕ) → k < b → E (a + k)) → (i : ℕ) → i < a + b → E i
@@ -121,7 +125,7 @@ by-parts E a b f g i h = go (decLt i a)
         subst E at (g (i - a) (omega arith))
 
 -- every place is one of a load, of the bottom or of a strake
-pub every-place : (s : List ℕ) (E : ℕ → Type 0) → ((l : Load) (i : ℕ) → i < depth-count s → E (load-place (depth-count s) l i))
+pub every-place : (s : List ℕ) (E : ℕ → Type 0) → ((r i : ℕ) → r < 8 → i < depth-count s → E (load-place (depth-count s) r i))
     → ((k : ℕ) → k < 10 → E (bottom-place (depth-count s) k)) → ((k : ℕ) → k < strake-count s → E (strake-place (depth-count s) k))
     → (i : ℕ) → i < length-due s → E i
 unfolding length-due
@@ -130,14 +134,13 @@ every-place s E depths bottom strakes =
   where
     at-load : (i : ℕ) → i < 8 * depth-count s → E i
     at-load i h =
-        let (x, e) = load-ranked (i % 8) (omega arith) in
-        let at : 8 * (i / 8) + rank x ≡ i = omega (arith, e) in
-        subst E at (depths x (i / 8) (omega arith))
+        let at : 8 * (i / 8) + i % 8 ≡ i = omega arith in
+        subst E at (depths (i % 8) (i / 8) (omega arith) (omega arith))
 
 -- so `Filled` leaves no number of the list open
 pub filled-once : (f : FillingNumbers) (s l l' : List ℕ) → Filled f s l → Filled f s l' → l ≡ l'
 filled-once f s l l' a b =
     let same =
-    every-place s (λ i. getD l i 0 ≡ getD l' i 0) (λ x i h. a .at-depths x i h ∙ sym (b .at-depths x i h)) (λ k h. a .at-bottom k h ∙ sym (b .at-bottom k h))
+    every-place s (λ i. getD l i 0 ≡ getD l' i 0) (λ r i g h. a .at-depths r i g h ∙ sym (b .at-depths r i g h)) (λ k h. a .at-bottom k h ∙ sym (b .at-bottom k h))
     (λ k h. a .at-strakes k h ∙ sym (b .at-strakes k h)) in
     ext-getD 0 l l' (a .due ∙ sym (b .due)) (λ i h. same i (omega (arith, a .due)))

@@ -11,9 +11,8 @@ use Rattle.description.specs.Silo.{section-of, product-of, eccentricities-of, b
 use Rattle.sheet.specs.Refusal.{sheet-rules}
 use Rattle.answers.specs.Length.{length-due}
 use Rattle.loads.specs.declared.Silo.{Silo}
-use Rattle.loads.specs.Load.{Load}
-use Rattle.loads.specs.Load.{number, bottom-numbers}
-use Rattle.loads.specs.Load.Load.{p-he}
+use Rattle.loads.specs.Load.{eight, number, bottom-numbers}
+use Rattle.loads.specs.Load.Load.{listed-depth, p-he}
 use Rattle.answers.specs.Place.{load-place, bottom-place, strake-place}
 
 -- the silo that a sheet describes, mm; e is the larger of e_i, e_o
@@ -33,10 +32,7 @@ silo-of s =
 abbrev pub depth : List ℕ → ℕ → ℕ
 depth s i = getD (depths-of s) i 0
 
--- the numbers of a sheet's answer list
-abbrev pub load-in : List ℕ → List ℕ → Load → ℕ → ℕ
-load-in s list l i = getD list (load-place (depth-count s) l i) 0
-
+-- the numbers of the bottom and of the strakes in a sheet's answer list
 abbrev pub bottom-in : List ℕ → List ℕ → ℕ → ℕ
 bottom-in s list k = getD list (bottom-place (depth-count s) k) 0
 
@@ -46,7 +42,8 @@ strake-in s list k = getD list (strake-place (depth-count s) k) 0
 -- the list has the length due, and each number in its place
 pub record Filled (f : FillingNumbers) (s list : List ℕ) : Type 0 where
   pub due : length list ≡ length-due s
-  pub at-depths : (l : Load) (i : ℕ) → i < depth-count s → load-in s list l i ≡ number f (silo-of s) l (depth s i)
+  pub at-depths : (r i : ℕ) → r < 8 → i < depth-count s
+      → getD list (load-place (depth-count s) r i) 0 ≡ number f (silo-of s) (getD eight r listed-depth) (depth s i)
   pub at-bottom : (k : ℕ) → k < 10 → bottom-in s list k ≡ getD (bottom-numbers f (silo-of s)) k 0
   -- p_he at the strake's lower edge
   pub at-strakes : (k : ℕ) → k < strake-count s → strake-in s list k ≡ number f (silo-of s) p-he (edge-of s (suc k))

@@ -8,7 +8,8 @@ use Rattle.description.specs.Silo.{product-sent, strake-count, depth-count}
 use Rattle.loads.specs.Load.{Load}
 use Rattle.loads.specs.Load.{FillingLoad}
 use Rattle.loads.specs.Load.Load.{p-he, p-we, p-p}
-use Rattle.answers.specs.Answers.{load-in, bottom-in, strake-in}
+use Rattle.answers.specs.Answers.{bottom-in, strake-in}
+use Rattle.answers.specs.Order.{load-in}
 
 -- the same sheet with C0 = c written in, hundredths
 unfoldable pub with-factor : ℕ → List ℕ → List ℕ

@@ -43,6 +43,6 @@ p-he-beside = (refl, refl)
 pub other-than-135 : (lent left left' : List ℕ) → Promise computed-by table (factor-sheet 0) lent 0 left → Promise computed-by table (factor-sheet 135) lent 0 left' → left ≡ left' → ⊥
 unfolding behind-section case-sheet place payload-length u16 depth-count
 other-than-135 lent left left' a b e =
-    let x : getD left 13 0 ≡ 27276 = a .1 .done refl .filled .at-depths p-he 1 (ltb→lt _ _ tt) ∙ p-he-beside .0 in
-    let y : getD left' 13 0 ≡ 23756 = b .1 .done refl .filled .at-depths p-he 1 (ltb→lt _ _ tt) ∙ p-he-beside .1 in
+    let x : getD left 13 0 ≡ 27276 = a .1 .done refl .filled .at-depths 5 1 (ltb→lt _ _ tt) (ltb→lt _ _ tt) ∙ p-he-beside .0 in
+    let y : getD left' 13 0 ≡ 23756 = b .1 .done refl .filled .at-depths 5 1 (ltb→lt _ _ tt) (ltb→lt _ _ tt) ∙ p-he-beside .1 in
     omega (arith, sym x ∙ ap (λ (l : List ℕ). getD l 13 0) e ∙ y)

@@ -17,7 +17,8 @@ use Rattle.janssen.specs.Numbers.{FillingNumbers}
 use Rattle.janssen.specs.Section.{side-a, side-b, d-c, R}
 use Rattle.janssen.specs.Filling.{grain-of, Ks, μ, z0, q, γR, P, D, N}
 use Rattle.janssen.specs.program.Pressure.{step, limit, decay-by, pressure, filling-by, z0-scaled, loaded-depth, load, wall-load-by, computed-by, computed}
-use Rattle.discharge.specs.Discharge.{magnifier, horizontal-magnifier, friction-magnifier, magnified-load, patch-load}
+use Rattle.discharge.specs.Discharge.{magnifier, magnified-load, patch-load}
+use Rattle.discharge.specs.program.Magnifier.{horizontal-magnifier, friction-magnifier}
 use Rattle.loads.specs.Load.{Load}
 use Rattle.loads.specs.Load.{load-depth, full-height, C-h, C-w, number}
 use Rattle.loads.specs.Load.Load.{listed-depth, p-hf, p-wf, p-vf, P-w, p-he, p-we, p-p}

@@ -9,7 +9,7 @@ use Rattle.fraction.specs.Fraction.{Fraction, whole, _⊕_, _⪯_}
 use Rattle.fraction.proofs.Order.{⪯-refl, ⪯-trans, ⊕-more, ⊕-mono}
 use Rattle.exponential.specs.Series.{term, factorial}
 use Rattle.exponential.proofs.Terms.{term-positive}
-use Rattle.cosine.specs.Cosine.{positive-terms, negative-terms}
+use Rattle.cosine.specs.Cosine.{every-fourth}
 
 -- a sum taken apart another way
 pub exchanged : (a b t : Fraction) → 0 < a .bottom → 0 < b .bottom → 0 < t .bottom → (a ⊕ t) ⊕ b ⪯ (a ⊕ b) ⊕ t
@@ -23,20 +23,21 @@ grouped a b t ha hb ht = record { left = mul-pos ha (mul-pos hb ht); right = mul
 
 module _ (x : Fraction) (hx : 0 < x .bottom) where
   abbrev P : ℕ → Fraction
-  P n = positive-terms n x
+  P n = every-fourth 0 n x
 
   abbrev N : ℕ → Fraction
-  N n = negative-terms n x
+  N n = every-fourth 2 n x
+
+  positive : (k n : ℕ) → 0 < every-fourth k n x .bottom
+  unfolding every-fourth
+  positive k zero = term-positive k x hx
+  positive k (suc n) = mul-pos (positive k n) (term-positive (4 * suc n + k) x hx)
 
   P-positive : (n : ℕ) → 0 < P n .bottom
-  unfolding positive-terms
-  P-positive zero = term-positive 0 x hx
-  P-positive (suc n) = mul-pos (P-positive n) (term-positive (4 * suc n) x hx)
+  P-positive = positive 0
 
   N-positive : (n : ℕ) → 0 < N n .bottom
-  unfolding negative-terms
-  N-positive zero = term-positive 2 x hx
-  N-positive (suc n) = mul-pos (N-positive n) (term-positive (4 * suc n + 2) x hx)
+  N-positive = positive 2
 
   -- x^(j+1)/(j+1)! ≤ x^j/j! where x ≤ j + 1
   term-falls : (j : ℕ) → x ⪯ whole (suc j) → term (suc j) x ⪯ term j x
@@ -58,35 +59,35 @@ module _ (x : Fraction) (hx : 0 < x .bottom) where
 
     -- an upper sum k further on is no greater
     upper-falls : (n k : ℕ) → P (suc (n + k)) ⊕ N n ⪯ P (suc n) ⊕ N (n + k)
-    unfolding positive-terms negative-terms
+    unfolding every-fourth
     upper-falls n zero = rw add-zero (⪯-refl (P (suc n) ⊕ N n) (mul-pos (P-positive (suc n)) (N-positive n)))
     upper-falls n (suc k) =
         let m = n + k in
-        let t : Fraction = term (4 * suc (suc m)) x in
-        let ht = term-positive (4 * suc (suc m)) x hx in
+        let t : Fraction = term (4 * suc (suc m) + 0) x in
+        let ht = term-positive (4 * suc (suc m) + 0) x hx in
         let s : Fraction = term (4 * suc m + 2) x in
         rw add-suc
         (⪯-trans (exchanged (P (suc m)) (N n) t (P-positive (suc m)) (N-positive n) ht)
-        (⪯-trans (⊕-mono (upper-falls n k) (falls-twice (4 * suc m + 2) (4 * suc (suc m)) (omega arith) (omega arith)))
+        (⪯-trans (⊕-mono (upper-falls n k) (falls-twice (4 * suc m + 2) (4 * suc (suc m) + 0) (omega arith) (omega arith)))
         (regrouped (P (suc n)) (N m) s (P-positive (suc n)) (N-positive m) (term-positive (4 * suc m + 2) x hx))))
 
     -- a lower sum k further on is no smaller
     lower-rises : (n k : ℕ) → P n ⊕ N (n + k) ⪯ P (n + k) ⊕ N n
-    unfolding positive-terms negative-terms
+    unfolding every-fourth
     lower-rises n zero = rw add-zero (⪯-refl (P n ⊕ N n) (mul-pos (P-positive n) (N-positive n)))
     lower-rises n (suc k) =
         let m = n + k in
         let t : Fraction = term (4 * suc m + 2) x in
         let ht = term-positive (4 * suc m + 2) x hx in
-        let s : Fraction = term (4 * suc m) x in
+        let s : Fraction = term (4 * suc m + 0) x in
         rw add-suc
         (⪯-trans (grouped (P n) (N m) t (P-positive n) (N-positive m) ht)
-        (⪯-trans (⊕-mono (lower-rises n k) (falls-twice (4 * suc m) (4 * suc m + 2) (omega arith) (omega arith)))
-        (exchanged (P m) s (N n) (P-positive m) (term-positive (4 * suc m) x hx) (N-positive n))))
+        (⪯-trans (⊕-mono (lower-rises n k) (falls-twice (4 * suc m + 0) (4 * suc m + 2) (omega arith) (omega arith)))
+        (exchanged (P m) s (N n) (P-positive m) (term-positive (4 * suc m + 0) x hx) (N-positive n))))
 
     one-more : (n : ℕ) → P n ⪯ P (suc n)
-    unfolding positive-terms
-    one-more n = ⊕-more (P n) (term (4 * suc n) x) (P-positive n) (term-positive (4 * suc n) x hx)
+    unfolding every-fourth
+    one-more n = ⊕-more (P n) (term (4 * suc n + 0) x) (P-positive n) (term-positive (4 * suc n + 0) x hx)
 
     -- the lower sum m is at most the upper sum n
     pub sums-meet : (m n : ℕ) → P m ⊕ N n ⪯ P (suc n) ⊕ N m

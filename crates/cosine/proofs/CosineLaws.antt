@@ -13,7 +13,7 @@ use lib.ListN.{length, getD}
 use Rattle.fraction.specs.Fraction.{Fraction, _⊘_, whole, _⊕_, _⪯_, _≺_}
 use Rattle.fraction.proofs.Order.{pos-right, compare, ⪯-refl, ⪯-trans, ⊕-mono, ⊕-cancel}
 use Rattle.exponential.specs.Series.{term, factorial}
-use Rattle.cosine.specs.Cosine.{Difference, AtMost, positive-terms, negative-terms, radians, π-high, exactly, where-known, cosine-above, cosine-below, billionths, Enclosed, CosineTable}
+use Rattle.cosine.specs.Cosine.{Difference, AtMost, LessAbove, every-fourth, radians, exactly, where-known, cosine-above, cosine-below, billionths, CosineTable}
 use Rattle.cosine.specs.program.Table.{table, entry}
 use Rattle.cosine.proofs.Alternating.{exchanged, sums-meet}
 
@@ -41,7 +41,7 @@ less-than-is p q t =
 -- the upper sums at the upper bound of π, which no lower sum there is above
 cosine-over : ℕ → ℕ → Difference
 cosine-over d n =
-    where-known d (record { more = positive-terms (suc n) (radians π-high d); less = negative-terms n (radians π-high d) })
+    let x = radians 314159265358980 d in where-known d (record { more = every-fourth 0 (suc n) x; less = every-fourth 2 n x })
 
 -- the rule at one entry
 is-above : Difference → ℕ → Bool
@@ -55,7 +55,8 @@ meets d t = (is-above (cosine-above d 3) t && is-near (cosine-below d 3) t) && i
 
 -- what the test of one entry says
 record Met (d t : ℕ) : Type 0 where
-  enclosed : Enclosed d t
+  never-below : (n : ℕ) × AtMost (cosine-above d n) (billionths t)
+  less-above : (n : ℕ) × LessAbove (billionths 2) (cosine-below d n) (billionths t)
   over : AtMost (cosine-over d 3) (billionths t)
 
 meets-is : (d t : ℕ) → T (meets d t) → Met d t
@@ -66,7 +67,8 @@ meets-is d t h =
     let s = and-yes (a && b) (is-above (cosine-over d 3) t) h in
     let r = and-yes a b (s .0) in
     record {
-      enclosed = record { never-below = (3, at-most-is _ _ (r .0)); less-above = (3, less-than-is _ _ (r .1)) };
+      never-below = (3, at-most-is _ _ (r .0));
+      less-above = (3, less-than-is _ _ (r .1));
       over = at-most-is _ _ (s .1);
     }
 
@@ -84,7 +86,7 @@ each d (t ∷ ts) h (suc i) l =
 
 -- the computed test, over the whole table
 tested : T (all-meet 0 table)
-unfolding all-meet meets is-above is-near at-most less-than cosine-above cosine-below cosine-over where-known positive-terms negative-terms term factorial table
+unfolding all-meet meets is-above is-near at-most less-than cosine-above cosine-below cosine-over where-known every-fourth term factorial table
 tested = tt
 
 table-length : length table ≡ 91
@@ -101,7 +103,7 @@ exact = (refl, refl, refl)
 
 -- the rule of the table
 pub tabulated : CosineTable entry
-tabulated = record { each = λ d l. met d l .enclosed; exact = exact }
+tabulated = record { never-below = λ d l. met d l .never-below; less-above = λ d l. met d l .less-above; exact = exact }
 
 -- what holds of two differences that are equal where the cosine is known, and of two others, holds at every degree
 at-known : (R : Difference → Difference → Type 0) → ((c : Fraction) → 0 < c .bottom → R (exactly c) (exactly c)) → (d : ℕ) (a b : Difference) → R a b
@@ -124,7 +126,7 @@ sums-under : (d n : ℕ) → d < 91 → Under (cosine-below d n) (cosine-over d 
 unfolding cosine-below cosine-over
 sums-under d n l =
     at-known Under (λ c h. compare (omega arith) (omega arith) (omega arith)) d _ _
-    (sums-meet (radians π-high d) (omega arith) (compare (omega arith) (omega arith) (omega arith)) n 3)
+    (sums-meet (radians 314159265358980 d) (omega arith) (compare (omega arith) (omega arith) (omega arith)) n 3)
 
 -- no lower sum is above an entry
 pub no-sum-above : (d n : ℕ) → d < 91 → AtMost (cosine-below d n) (billionths (entry d))

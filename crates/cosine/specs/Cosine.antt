@@ -22,25 +22,14 @@ AtMost c t = c .more ⪯ t ⊕ c .less
 abbrev pub LessAbove : Fraction → Difference → Fraction → Type 0
 LessAbove w c t = t ⊕ c .less ≺ c .more ⊕ w
 
--- 1 + x⁴/4! + x⁸/8! + .. to x^(4n)/(4n)!
-unfoldable pub positive-terms : ℕ → Fraction → Fraction
-positive-terms zero x = term 0 x
-positive-terms (suc n) x = positive-terms n x ⊕ term (4 * suc n) x
+-- x^k/k! + x^(k+4)/(k+4)! + .., of which n follow the first: at k = 0 the positive terms, at k = 2 the negative ones
+unfoldable pub every-fourth : ℕ → ℕ → Fraction → Fraction
+every-fourth k zero x = term k x
+every-fourth k (suc n) x = every-fourth k n x ⊕ term (4 * suc n + k) x
 
--- x²/2! + x⁶/6! + .. to x^(4n+2)/(4n+2)!
-unfoldable pub negative-terms : ℕ → Fraction → Fraction
-negative-terms zero x = term 2 x
-negative-terms (suc n) x = negative-terms n x ⊕ term (4 * suc n + 2) x
-
--- d degrees in radians, for π in 10^-14: between 3.14159265358979 and 3.14159265358980
+-- d degrees in radians, for π in 10^-14
 abbrev pub radians : ℕ → ℕ → Fraction
 radians π d = (π * d) ⊘ (180 * 10 ^ 14)
-
-abbrev pub π-low : ℕ
-π-low = 314159265358979
-
-abbrev pub π-high : ℕ
-π-high = 314159265358980
 
 abbrev pub exactly : Fraction → Difference
 exactly c = record { more = c; less = whole 0 }
@@ -50,25 +39,19 @@ unfoldable pub where-known : ℕ → Difference → Difference
 where-known d series =
     cond (eqb d 0) (exactly (whole 1)) (cond (eqb d 60) (exactly (1 ⊘ 2)) (cond (eqb d 90) (exactly (whole 0)) series))
 
--- the cosine of d degrees from above and from below, by the sums of number n
+-- the cosine of d degrees from above and from below, by the sums of number n, π being between 3.14159265358979 and 3.14159265358980
 unfoldable pub cosine-above : ℕ → ℕ → Difference
-cosine-above d n =
-    where-known d (record { more = positive-terms (suc n) (radians π-low d); less = negative-terms n (radians π-low d) })
+cosine-above d n = let x = radians 314159265358979 d in where-known d (record { more = every-fourth 0 (suc n) x; less = every-fourth 2 n x })
 
 unfoldable pub cosine-below : ℕ → ℕ → Difference
-cosine-below d n =
-    where-known d (record { more = positive-terms n (radians π-high d); less = negative-terms n (radians π-high d) })
+cosine-below d n = let x = radians 314159265358980 d in where-known d (record { more = every-fourth 0 n x; less = every-fourth 2 n x })
 
 abbrev pub billionths : ℕ → Fraction
 billionths t = t ⊘ 10 ^ 9
 
--- the entry t at d degrees is never below the cosine, and less than 2 above it
-pub record Enclosed (d t : ℕ) : Type 0 where
-  pub never-below : (n : ℕ) × AtMost (cosine-above d n) (billionths t)
-  pub less-above : (n : ℕ) × LessAbove (billionths 2) (cosine-below d n) (billionths t)
-
--- what holds of the one fixed table
+-- the one fixed table: each entry is never below the cosine, and less than 2 above it
 pub record CosineTable (entry : ℕ → ℕ) : Type 0 where
-  pub each : (d : ℕ) → d < 91 → Enclosed d (entry d)
+  pub never-below : (d : ℕ) → d < 91 → (n : ℕ) × AtMost (cosine-above d n) (billionths (entry d))
+  pub less-above : (d : ℕ) → d < 91 → (n : ℕ) × LessAbove (billionths 2) (cosine-below d n) (billionths (entry d))
   -- 1, 1/2 and 0
   pub exact : (entry 0 ≡ 1000000000) × (entry 60 ≡ 500000000) × (entry 90 ≡ 0)

@@ -11,7 +11,7 @@ use Rattle.fraction.proofs.Up.{up-lt, up-le, up-mono, up-above, up-same}
 use Rattle.allowance.specs.Allowance.{Lower, Allowance}
 use Rattle.allowance.proofs.LowerLaws.{Filled, allowed}
 use Rattle.allowance.proofs.Rounding.{wholes, scaled}
-use Rattle.discharge.specs.Discharge.{magnified, β, patch, magnified-load, patch-load}
+use Rattle.discharge.specs.Discharge.{β, patch, magnified-load, patch-load}
 
 -- ranges
 pub magnified-load-range : (C : Fraction) → 0 < C .bottom → (p : ℕ) → C .top ≤ 2 * C .bottom → p < 2 ^ 25 → magnified-load C p ≤ 2 ^ 26
@@ -49,9 +49,9 @@ unfolding patch-load
 patch-load-mono e d hd h = up-mono (scaled ((2 ⊘ 10) ⊗ β e d) (patch-proper e d hd) (wholes h))
 
 -- allowances
-e-above : (C : Fraction) → 0 < C .bottom → (p : ℕ) (v : Fraction) → v ⪯ whole p → magnified C v ⪯ whole (magnified-load C p)
+e-above : (C : Fraction) → 0 < C .bottom → (p : ℕ) (v : Fraction) → v ⪯ whole p → C ⊗ v ⪯ whole (magnified-load C p)
 unfolding magnified-load
-e-above C pos p v h = ⪯-trans (scaled C pos h) (up-above (magnified C (whole p)) (omega arith))
+e-above C pos p v h = ⪯-trans (scaled C pos h) (up-above (C ⊗ whole p) (omega arith))
 
 -- 2·C + 1 is at most w
 e-near : (C : Fraction) → 0 < C .bottom → (w p v : ℕ) → 2 * C .top + C .bottom ≤ w * C .bottom → p ≤ v + 2
@@ -61,13 +61,13 @@ e-near C pos w p v hc h = omega (arith, up-lt (C .top * p) (C .bottom * 1) (omeg
 
 pub magnified-load-allowance :
     {P q : Fraction} (C : Fraction) → 0 < C .bottom → (w p : ℕ) → 2 * C .top + C .bottom ≤ w * C .bottom → Filled P q p
-    → Allowance (Lower P q) (magnified C) w (magnified-load C p)
+    → Allowance (Lower P q) (λ v. C ⊗ v) w (magnified-load C p)
 magnified-load-allowance C pos w p hc fill =
-    allowed (magnified C) fill (e-above C pos p)
+    allowed (λ v. C ⊗ v) fill (e-above C pos p)
     (λ v h. record { left = omega arith; right = omega arith; order = omega (arith, e-near C pos w p v hc h) })
 
 patch-near : (e d : ℕ) (C : Fraction) → 0 < C .bottom → (h v : ℕ) → 0 < d → 4 * e ≤ d → h * C .bottom < C .top * v + 5 * C .bottom →
-    whole (patch-load e d h) ≺ patch e d (magnified C (whole v)) ⊕ whole 3
+    whole (patch-load e d h) ≺ patch e d (C ⊗ whole v) ⊕ whole 3
 unfolding patch-load
 patch-near e d C pos h v hd he hh = record {
   left = omega arith;
@@ -83,10 +83,10 @@ patch-near e d C pos h v hd he hh = record {
 
 pub patch-load-allowance :
     {P q : Fraction} (C : Fraction) → 0 < C .bottom → (e d p : ℕ) → C .top ≤ 2 * C .bottom → 0 < d → 4 * e ≤ d → Filled P q p →
-    Allowance (Lower P q) (λ v. patch e d (magnified C v)) 3 (patch-load e d (magnified-load C p))
+    Allowance (Lower P q) (λ v. patch e d (C ⊗ v)) 3 (patch-load e d (magnified-load C p))
 unfolding patch-load
 patch-load-allowance C pos e d p hc hd he fill =
-    allowed (λ v. patch e d (magnified C v)) fill
+    allowed (λ v. patch e d (C ⊗ v)) fill
     (λ v h.
     ⪯-trans
     (scaled ((2 ⊘ 10) ⊗ β e d) (patch-proper e d hd) (e-above C pos p v h))

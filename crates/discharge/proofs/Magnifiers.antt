@@ -9,8 +9,8 @@ use borrow.Author.Tests.{lt-ltb, le-ltb, le-leb, lt-leb}
 use Rattle.fraction.specs.Fraction.{Fraction, whole, _⪯_}
 use Rattle.fraction.proofs.Order.{compare, same, ⪯-refl}
 use Rattle.janssen.specs.Filling.{hundredths}
-use Rattle.discharge.specs.Discharge.{squat-magnifier, magnifier, horizontal-magnifier}
-use Rattle.discharge.specs.program.Magnifier.{held, Moderate}
+use Rattle.discharge.specs.Discharge.{squat-magnifier, magnifier}
+use Rattle.discharge.specs.program.Magnifier.{horizontal-magnifier, held, Moderate}
 
 -- the three cases
 module _ (C rate h d : ℕ) where

@@ -14,18 +14,6 @@ squat-magnifier rate h d = whole 1 ⊕ hundredths rate ⊗ ((h - d) ⊘ d)
 unfoldable pub magnifier : ℕ → ℕ → ℕ → ℕ → Fraction
 magnifier C rate h d = cond (leb (3 * d) (2 * h)) (hundredths C) (cond (ltb d h) (squat-magnifier rate h d) (whole 1))
 
--- C_h: C0 (5.23), or 1 + 2(C0 − 1)(h/d_c − 1) (5.35); C0 in hundredths, from 100 on
-abbrev pub horizontal-magnifier : ℕ → ℕ → ℕ → Fraction
-horizontal-magnifier C0 h d = magnifier C0 (2 * (C0 - 100)) h d
-
--- C_w: 1.1 (5.23), or 1 + 0.2(h/d_c − 1) (5.34)
-abbrev pub friction-magnifier : ℕ → ℕ → Fraction
-friction-magnifier h d = magnifier 110 20 h d
-
--- C·p: a filling pressure at discharge (5.20 and 5.21) or on the flat floor, each with its own C
-abbrev pub magnified : Fraction → Fraction → Fraction
-magnified C v = C ⊗ v
-
 -- β = 1 + 4e/d_c (5.25), e and d_c in mm
 abbrev pub β : ℕ → ℕ → Fraction
 β e d = whole 1 ⊕ ((4 * e) ⊘ d)
@@ -38,9 +26,9 @@ patch e d v = (2 ⊘ 10) ⊗ β e d ⊗ v
 abbrev pub C-b : Fraction
 C-b = 12 ⊘ 10
 
--- p_he = up(C_h·p_hf), p_we = up(C_w·p_wf), the floor up(1.2·p_vf(V))
+-- up(C·p): p_he = up(C_h·p_hf) (5.20), p_we = up(C_w·p_wf) (5.21), the floor up(1.2·p_vf(V))
 unfoldable pub magnified-load : Fraction → ℕ → ℕ
-magnified-load C p = up (magnified C (whole p))
+magnified-load C p = up (C ⊗ whole p)
 
 -- p_p = up(0.2·β·p_he)
 unfoldable pub patch-load : ℕ → ℕ → ℕ → ℕ

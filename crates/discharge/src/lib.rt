@@ -1,8 +1,8 @@
 // Loads on wall and flat floor made from filling pressures. Source 001, clauses 5.2.1.2, 5.2.2.1 and 5.3.
 ghost use mathlib.Core.Path.{_≡_};
 ghost use Prim.Native.Nat.{_*_, _^_, _<_, _≤_, max};
-ghost use Rattle.discharge.specs.Discharge.{magnifier, horizontal-magnifier, friction-magnifier, magnified-load, patch-load, C-b};
-ghost use Rattle.discharge.specs.program.Magnifier.{held, Moderate};
+ghost use Rattle.discharge.specs.Discharge.{magnifier, magnified-load, patch-load, C-b};
+ghost use Rattle.discharge.specs.program.Magnifier.{horizontal-magnifier, friction-magnifier, held, Moderate};
 ghost use Rattle.fraction.specs.Fraction.{_⊘_};
 use janssen::Pascals;
 

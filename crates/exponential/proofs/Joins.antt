@@ -6,7 +6,7 @@ use native.Mathlib.Nat.{mul-pos, mul-le-mul-left, mul-le-mul-right, mul-lt-mul-o
 use native.Mathlib.Omega.{arith}
 use Rattle.fraction.specs.Fraction.{Fraction, _⊘_, whole, _⊗_, _⪯_}
 use Rattle.exponential.specs.Series.{S}
-use Rattle.exponential.specs.Table.{Below, Above}
+use Rattle.exponential.specs.program.Lower.{Below, Above}
 use Rattle.exponential.proofs.Terms.{S-positive}
 use Rattle.exponential.proofs.SeriesLaws.{S-split, S-join}
 

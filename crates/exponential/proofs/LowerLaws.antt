@@ -14,9 +14,8 @@ use Rattle.fraction.specs.Fraction.{Fraction, up, _⊘_, whole, _⊗_, _⪯_}
 use Rattle.fraction.proofs.Order.{compare, ⪯-trans, ≺-⪯-trans, ⊗-mono, ⪯-refl}
 use Rattle.fraction.proofs.Up.{up-ge, up-lt, up-mono}
 use Rattle.exponential.specs.Series.{S}
-use Rattle.exponential.specs.Table.{Below, Above}
 use Rattle.exponential.specs.program.Table.{table}
-use Rattle.exponential.specs.program.Lower.{denominator, between, entry-in, entry, lower-by, lower}
+use Rattle.exponential.specs.program.Lower.{Below, Above, denominator, between, entry-in, entry, lower-by, lower}
 use Rattle.exponential.proofs.Terms.{terms, terms-are, S-positive}
 use Rattle.exponential.proofs.Weighted.{wsum, weighted-bound, weighted-equal, sum-at-most, sum-at-least}
 use Rattle.exponential.proofs.SeriesLaws.{S-one, S-mono, S-split}

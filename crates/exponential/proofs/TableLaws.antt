@@ -13,9 +13,9 @@ use mir.Facts.{and-yes}
 use lib.ListN.{length, getD}
 use Rattle.fraction.specs.Fraction.{_⊘_, whole, _⊗_, _⪯_}
 use Rattle.exponential.specs.Series.{factorial, term, S}
-use Rattle.exponential.specs.Table.{Enclosed, Tabulated}
+use Rattle.exponential.specs.Table.{Tabulated}
 use Rattle.exponential.specs.program.Table.{table}
-use Rattle.exponential.specs.program.Lower.{entry-in, entry}
+use Rattle.exponential.specs.program.Lower.{Below, Above, entry-in, entry}
 use Rattle.exponential.proofs.Terms.{terms, terms-are}
 use Rattle.exponential.proofs.Weighted.{wsum, weighted-bound, sum-at-most}
 use Rattle.exponential.proofs.SeriesLaws.{S-one}
@@ -55,6 +55,10 @@ unfolding follows
 may-follow x y t =
     let l = and-yes (leb (y * 679526571) (x * 668991488)) (leb ((x + 256) * 128849018880) ((y + 256) * 130878095681)) t in
     (leb→le _ _ (l .0), leb→le _ _ (l .1))
+
+-- the rule of the entry t at k
+abbrev Enclosed : ℕ → ℕ → Type 0
+Enclosed k t = Below t (k ⊘ 64) × Above (t + 256) (k ⊘ 64)
 
 -- one step along the table
 enclosed-next : (k x y : ℕ) → T (follows x y) → Enclosed k x → Enclosed (suc k) y
@@ -118,7 +122,7 @@ enclosed (suc k) l = enclosed-next k (entry k) (entry (suc k)) (follow k l) (enc
 
 pub tabulated : Tabulated table
 unfolding entry-in
-tabulated = record { count = table-length; first = entry-zero; each = enclosed }
+tabulated = record { count = table-length; first = entry-zero; never-above = λ k l. enclosed k l .0; less-below = λ k l. enclosed k l .1 }
 
 -- the table never rises
 pub entry-falls : (k : ℕ) → suc k < 3393 → entry (suc k) ≤ entry k

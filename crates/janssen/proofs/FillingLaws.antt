@@ -9,8 +9,7 @@ use Rattle.fraction.specs.Fraction.{Fraction, _⊘_, whole, _⪯_, up}
 use Rattle.fraction.proofs.Order.{compare, ⪯-refl, ⪯-trans, ⊕-mono, ⊗-mono}
 use Rattle.fraction.proofs.Up.{up-ge, up-lt, up-le, up-mono, up-zero}
 use Rattle.exponential.specs.Series.{S}
-use Rattle.exponential.specs.Table.{Below}
-use Rattle.exponential.specs.program.Lower.{lower}
+use Rattle.exponential.specs.program.Lower.{Below, lower}
 use Rattle.exponential.proofs.Terms.{S-positive}
 use Rattle.exponential.proofs.LowerLaws.{Reaches, lower-below, lower-reaches, lower-falls, lower-zero, lower-le, below-anti}
 use Rattle.janssen.specs.declared.Section.{Section}

@@ -1,6 +1,6 @@
 -- The loads by name, and the number of each. Document 01, "Sheet", "Loads made from filling" and "Answer list"; document 02, C-13. Lengths in mm;
 -- pressures in Pa, P_w in N/m. The filling pressures and P_w are free: f names them.
-use Prim.Native.Nat.{ℕ, _+_, _-_}
+use Prim.Native.Nat.{ℕ, _+_, _-_, _*_}
 use mathlib.Core.Bool.{cond}
 use mathlib.Core.List.{List, [], _∷_, _++_, map}
 use lib.Dec.{eqb}
@@ -10,13 +10,17 @@ use Rattle.janssen.specs.Section.{d-c}
 use Rattle.janssen.specs.Filling.{Kind, grain-of}
 use Rattle.janssen.specs.Filling.Kind.{horizontal, vertical, wall-friction}
 use Rattle.janssen.specs.Numbers.{FillingNumbers}
-use Rattle.discharge.specs.Discharge.{horizontal-magnifier, friction-magnifier, magnified-load, patch-load, C-b}
+use Rattle.discharge.specs.Discharge.{magnifier, magnified-load, patch-load, C-b}
 use Rattle.hopper.specs.Hopper.{B, n3, P-n, P-t}
 use Rattle.loads.specs.declared.Silo.{Silo}
 
--- the eight numbers of a depth: z as the sheet has it, p_hf, p_wf, p_vf, P_w, p_he, p_we, p_p
+-- the numbers of a depth: z as the sheet has it, p_hf, p_wf, p_vf, P_w, p_he, p_we, p_p
 pub data Load : Type 0 where
   listed-depth p-hf p-wf p-vf P-w p-he p-we p-p : Load
+
+-- the order of the eight in answer list and page
+abbrev pub eight : List Load
+eight = listed-depth ∷ p-hf ∷ p-wf ∷ p-vf ∷ P-w ∷ p-he ∷ p-we ∷ p-p ∷ []
 
 -- the loads that are set by section, product and depth alone
 pub data FillingLoad : Load → Type 0 where
@@ -37,12 +41,13 @@ pressure-at f c k depth = f .filling-at k (c .section) (grain-of (c .product)) (
 abbrev pub full-height : Silo → ℕ
 full-height c = load-depth c (c .foot) + c .height
 
--- the magnifiers of p_hf and of p_wf at discharge (5.20 and 5.21)
+-- C_h: C0 (5.23), or 1 + 2(C0 − 1)(h/d_c − 1) (5.35); C0 from 100 hundredths on
 abbrev pub C-h : Silo → Fraction
-C-h c = horizontal-magnifier (c .product .factor) (full-height c) (d-c (c .section))
+C-h c = magnifier (c .product .factor) (2 * (c .product .factor - 100)) (full-height c) (d-c (c .section))
 
+-- C_w: 1.1 (5.23), or 1 + 0.2(h/d_c − 1) (5.34)
 abbrev pub C-w : Silo → Fraction
-C-w c = friction-magnifier (full-height c) (d-c (c .section))
+C-w c = magnifier 110 20 (full-height c) (d-c (c .section))
 
 -- the number of a load at a depth below the brim
 abbrev pub number : FillingNumbers → Silo → Load → ℕ → ℕ

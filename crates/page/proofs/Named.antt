@@ -10,24 +10,26 @@ use Rattle.text.specs.program.Mark.{number-field}
 use Rattle.janssen.specs.Numbers.{FillingNumbers}
 use Rattle.description.specs.Silo.{strake-count, depth-count, edge-of}
 use Rattle.loads.specs.Load.{Load}
-use Rattle.loads.specs.Load.{number, bottom-numbers}
+use Rattle.loads.specs.Load.{eight, number, bottom-numbers}
 use Rattle.loads.specs.Load.Load.{p-he}
 use Rattle.answers.specs.Each.{each}
 use Rattle.answers.specs.Length.{length-due}
-use Rattle.answers.specs.Answers.{silo-of, depth, load-in, Filled}
+use Rattle.answers.specs.Answers.{silo-of, depth, Filled}
+use Rattle.answers.specs.Order.{load-in}
+use Rattle.answers.proofs.Places.{at-load}
 use Rattle.answers.proofs.Stores.{each-same, each-split}
-use Rattle.page.specs.Page.{columns, line, depth-line, number-line, heading, page}
+use Rattle.page.specs.Page.{line, depth-line, number-line, heading, page}
 use Rattle.page.specs.program.Text.{row-text, number-text, at-rest, rows, rest, page-text}
 
 -- a row is the line of its eight numbers, by name
-row-line : (s list : List ℕ) (i : ℕ) → row-text list i ≡ line (map (λ (l : Load). decimal (load-in s list l i)) columns)
+row-line : (s list : List ℕ) (i : ℕ) → row-text list i ≡ line (map (λ (l : Load). decimal (load-in s list l i)) eight)
 unfolding row-text each number-field
 row-line s list i = simp append-assoc
 
 module _ (f : FillingNumbers) (s list : List ℕ) (fill : Filled f s list) where
   row-named : (i : ℕ) → i < depth-count s → row-text list i ≡ depth-line f (silo-of s) (depth s i)
   row-named i h =
-      row-line s list i ∙ ap (λ (n : Load → ℕ). line (map (λ (l : Load). decimal (n l)) columns)) (λ j l. fill .at-depths l i h j)
+      row-line s list i ∙ ap (λ (n : Load → ℕ). line (map (λ (l : Load). decimal (n l)) eight)) (λ j l. at-load fill l i h j)
 
   rows-named : rows list (depth-count s) ≡ each (λ (i : ℕ). depth-line f (silo-of s) (depth s i)) 0 (depth-count s)
   rows-named =

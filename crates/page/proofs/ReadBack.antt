@@ -21,11 +21,11 @@ use Rattle.loads.specs.Load.{Load}
 use Rattle.loads.specs.Load.Load.{listed-depth}
 use Rattle.answers.specs.Each.{each}
 use Rattle.answers.specs.Length.{length-due}
-use Rattle.answers.specs.Place.{rank}
-use Rattle.answers.specs.Answers.{load-in, Filled}
+use Rattle.answers.specs.Place.{load-place}
+use Rattle.answers.specs.Answers.{Filled}
 use Rattle.answers.proofs.Stores.{part-at}
 use Rattle.answers.proofs.Digits.{eight-digits, nine-digits}
-use Rattle.page.specs.Page.{columns, heading, page}
+use Rattle.page.specs.Page.{heading, page}
 use Rattle.page.specs.Reading.{column-field, rest-field, number-at, ReadsBack}
 use Rattle.page.specs.program.Text.{at-column, row-text, number-text, at-rest, rows, page-text}
 use Rattle.page.proofs.Lines.{Few, heading-length, column-length, columns-length, row-length, rows-length, rest-line, page-text-length}
@@ -68,18 +68,6 @@ field-back text at m h room same =
     (λ t g. getD-take 9 (drop at text) t 0 (omega (arith, nine)) ∙ getD-drop at text t 0 ∙ same t (omega (arith, nine))))
     ∙ field-read m h
 
--- the columns of the page are the loads in the order of a depth's eight
-ranked : (j : ℕ) → j < 8 → rank (getD columns j listed-depth) ≡ j
-ranked zero h = refl
-ranked (suc zero) h = refl
-ranked (suc (suc zero)) h = refl
-ranked (suc (suc (suc zero))) h = refl
-ranked (suc (suc (suc (suc zero)))) h = refl
-ranked (suc (suc (suc (suc (suc zero))))) h = refl
-ranked (suc (suc (suc (suc (suc (suc zero)))))) h = refl
-ranked (suc (suc (suc (suc (suc (suc (suc zero))))))) h = refl
-ranked (suc (suc (suc (suc (suc (suc (suc (suc j)))))))) h = absurd (omega arith)
-
 module _ (s list behind : List ℕ) (h : refusal-of s ≡ 0) (fill : Filled computed s list) where
   abbrev n : ℕ
   n = depth-count s
@@ -102,27 +90,26 @@ module _ (s list behind : List ℕ) (h : refusal-of s ≡ 0) (fill : Filled comp
   longer : length (page-text list n) ≤ length (page computed s ++ behind)
   longer = omega (arith, length-append (page computed s) behind, ap length (page-named computed s list fill))
 
-  -- the load of column j
-  abbrev load-of : ℕ → Load
-  load-of j = getD columns j listed-depth
+  -- number j of the depth i
+  abbrev listed : ℕ → ℕ → ℕ
+  listed i j = getD list (load-place n j i) 0
 
   load-character : (i j t : ℕ) → i < n → j < 8 → t < 9
-      → getD (page computed s ++ behind) (column-field i j + t) 0 ≡ getD (number-field (load-in s list (load-of j) i)) t 0
+      → getD (page computed s ++ behind) (column-field i j + t) 0 ≡ getD (number-field (listed i j)) t 0
   load-character i j t hi hj ht =
       inside (column-field i j + t) (omega (arith, text-length))
       ∙ row-character list few n i j t hi hj ht
-      ∙ ap (λ (r : ℕ). getD (number-field (getD list (8 * i + r) 0)) t 0) (sym (ranked j hj))
 
   pub spaced : (i j : ℕ) → i < n → j < 8 → getD (page computed s ++ behind) (column-field i j) 0 ≡ space
   spaced i j hi hj =
       ap (λ (at : ℕ). getD (page computed s ++ behind) at 0) (sym (add-zero (column-field i j)))
       ∙ load-character i j 0 hi hj (omega arith)
-      ∙ ap (λ (t : List ℕ). getD t 0 0) (field-spaced (load-in s list (load-of j) i) (eight-digits s list h fill (load-of j) i hi))
+      ∙ ap (λ (t : List ℕ). getD t 0 0) (field-spaced (listed i j) (eight-digits s list h fill j i hj hi))
 
-  load-back : (i j : ℕ) → i < n → j < 8 → number-at (page computed s ++ behind) (column-field i j) ≡ load-in s list (load-of j) i
+  load-back : (i j : ℕ) → i < n → j < 8 → number-at (page computed s ++ behind) (column-field i j) ≡ listed i j
   load-back i j hi hj =
-      field-back (page computed s ++ behind) (column-field i j) (load-in s list (load-of j) i)
-      (omega (arith, eight-digits s list h fill (load-of j) i hi)) (omega (arith, longer, text-length)) (λ t ht. load-character i j t hi hj ht)
+      field-back (page computed s ++ behind) (column-field i j) (listed i j)
+      (omega (arith, eight-digits s list h fill j i hj hi)) (omega (arith, longer, text-length)) (λ t ht. load-character i j t hi hj ht)
 
   rest-back : (k : ℕ) → k < 10 + strake-count s → number-at (page computed s ++ behind) (rest-field n k) ≡ getD list (8 * n + k) 0
   rest-back k hk =

@@ -10,17 +10,14 @@ use Rattle.description.specs.Silo.{strake-count, depth-count, edge-of}
 use Rattle.sheet.specs.Refusal.{sheet-rules, length-refusal}
 use Rattle.loads.specs.declared.Silo.{Silo}
 use Rattle.loads.specs.Load.{Load}
-use Rattle.loads.specs.Load.{number, bottom-numbers}
+use Rattle.loads.specs.Load.{eight, number, bottom-numbers}
 use Rattle.loads.specs.Load.Load.{listed-depth, p-hf, p-wf, p-vf, P-w, p-he, p-we, p-p}
 use Rattle.answers.specs.Each.{each}
 use Rattle.answers.specs.declared.length.Length.{Length}
 use Rattle.answers.specs.Length.{told}
 use Rattle.answers.specs.Answers.{silo-of, depth}
 
--- the load of each column, and its name in the heading
-abbrev pub columns : List Load
-columns = listed-depth ∷ p-hf ∷ p-wf ∷ p-vf ∷ P-w ∷ p-he ∷ p-we ∷ p-p ∷ []
-
+-- a load's name in the heading
 abbrev pub name : Load → List ℕ
 name listed-depth = ascii ("z" ∷ [])
 name p-hf = ascii ("p" ∷ "h" ∷ "f" ∷ [])
@@ -37,11 +34,11 @@ line [] = line-feed ∷ []
 line (t ∷ l) = field t ++ line l
 
 unfoldable pub heading : List ℕ
-heading = line (map name columns)
+heading = line (map name eight)
 
 -- the loads of a depth
 abbrev pub depth-line : FillingNumbers → Silo → ℕ → List ℕ
-depth-line f c z = line (map (λ l. decimal (number f c l z)) columns)
+depth-line f c z = line (map (λ l. decimal (number f c l z)) eight)
 
 -- one number
 abbrev pub number-line : ℕ → List ℕ

@@ -6,8 +6,8 @@ use lib.ListN.{getD, take, drop}
 use Rattle.text.specs.Reading.{reading}
 use Rattle.description.specs.Silo.{strake-count, depth-count}
 use Rattle.loads.specs.Load.Load.{listed-depth}
-use Rattle.answers.specs.Answers.{load-in, bottom-in, strake-in}
-use Rattle.page.specs.Page.{columns}
+use Rattle.answers.specs.Place.{load-place}
+use Rattle.answers.specs.Answers.{bottom-in, strake-in}
 
 -- where a field begins: column j of the depth i; number k behind n depths
 abbrev pub column-field : ℕ → ℕ → ℕ
@@ -23,6 +23,6 @@ number-at page at = reading (take 9 (drop at page))
 -- read back, the page of a sheet has the numbers of an answer list
 pub record ReadsBack (s page list : List ℕ) : Type 0 where
   -- the load that the heading names
-  pub depths-back : (i j : ℕ) → i < depth-count s → j < 8 → number-at page (column-field i j) ≡ load-in s list (getD columns j listed-depth) i
+  pub depths-back : (i j : ℕ) → i < depth-count s → j < 8 → number-at page (column-field i j) ≡ getD list (load-place (depth-count s) j i) 0
   pub bottom-back : (k : ℕ) → k < 10 → number-at page (rest-field (depth-count s) k) ≡ bottom-in s list k
   pub strakes-back : (k : ℕ) → k < strake-count s → number-at page (rest-field (depth-count s) (10 + k)) ≡ strake-in s list k

@@ -23,7 +23,8 @@ use Rattle.loads.proofs.LoadLaws.{rises}
 use Rattle.loads.specs.Load.Load.{p-p}
 use Rattle.answers.specs.Answers.{silo-of}
 use Rattle.answers.proofs.Demand.{silo-fits, reached}
-use Rattle.shell.specs.Shell.{size, F-p, patch-at}
+use Rattle.shell.specs.Shell.{size, F-p}
+use Rattle.shell.specs.program.Fill.{patch-at}
 
 -- ---- sizes
 pub size-is : (p d : ℕ) → size entry p d ≡ up ((p * entry d) ⊘ 1000000000)

@@ -34,7 +34,8 @@ use Rattle.answers.specs.Answers.{silo-of}
 use Rattle.answers.specs.program.Fill.{silo-in, basis-of}
 use Rattle.answers.proofs.Demand.{silo-fits, reached}
 use Rattle.answers.proofs.Whole.{basis-described, basis-sound}
-use Rattle.shell.specs.Shell.{folded, outward, size, p-ps, Round, patch-at, RoundOf, is-circle, shell-rules}
+use Rattle.shell.specs.Shell.{folded, outward, size, p-ps, Round, RoundOf, is-circle, shell-rules}
+use Rattle.shell.specs.program.Fill.{patch-at}
 use Rattle.shell.specs.Holds.{ShellClaim}
 use Rattle.shell.specs.Promise.{ShellPromise}
 use Rattle.shell.proofs.Signs.{signed-size}

@@ -24,7 +24,9 @@ use Rattle.sheet.proofs.Chains.{accepted-at, rules-numbered}
 use Rattle.loads.specs.declared.Silo.{Silo}
 use Rattle.loads.specs.Load.{number}
 use Rattle.loads.specs.Load.Load.{p-p}
-use Rattle.answers.specs.Answers.{silo-of, depth, load-in, Filled}
+use Rattle.answers.specs.Answers.{silo-of, depth, Filled}
+use Rattle.answers.specs.Order.{load-in}
+use Rattle.answers.proofs.Places.{at-load}
 use Rattle.answers.specs.Factor.{with-factor, Blank}
 use Rattle.answers.proofs.OneSilo.{Alike, accepted-alike}
 use Rattle.answers.proofs.Headroom.{level, level-alike}
@@ -49,7 +51,7 @@ as-answered f c cosines s answers z list a r i h e =
     let p = number f (silo-of s) p-p z in
     r .pressures 0 (omega arith)
     ∙ near c p 0 0 refl (omega arith)
-    ∙ ap pos (size-whole cosines p ∙ ap (number f (silo-of s) p-p) (sym e) ∙ sym (a .at-depths p-p i h))
+    ∙ ap pos (size-whole cosines p ∙ ap (number f (silo-of s) p-p) (sym e) ∙ sym (at-load a p-p i h))
 
 -- every number of the list is fixed
 round-once : {c : ℕ → ℕ} (d p : ℕ) (list list' : List ℤ) → Round c d p list → Round c d p list' → list ≡ list'

@@ -80,9 +80,8 @@ unfolding size
 size-holds Low F p d hp hd a =
     let t : Fraction = billionths (entry d) in
     let n : ℕ = up (whole p ⊗ t) in
-    let e = tabulated .each d hd in
-    let u = e .never-below in
-    let w = e .less-above in
+    let u = tabulated .never-below d hd in
+    let w = tabulated .less-above d hd in
     let v = a .less-above in
     let f = a .at-or-above (v .0) (v .1) in
     let close : whole n ≺ whole p ⊗ t ⊕ whole 1 = record { left = omega arith; right = omega arith; order = omega (arith, up-lt (p * entry d) 1000000000 (omega arith)) } in

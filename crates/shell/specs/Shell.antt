@@ -59,13 +59,9 @@ pub record Round (c : ℕ → ℕ) (d p : ℕ) (list : List ℤ) : Type 0 where
   pub pressures : (θ : ℕ) → θ < 360 → getD list θ (pos 0) ≡ p-ps c p θ
   pub force : getD list 360 (pos 0) ≡ pos (F-p d p)
 
--- p_p at the depth z mm below the brim, as the answer list has it
-abbrev pub patch-at : FillingNumbers → List ℕ → ℕ → ℕ
-patch-at f s z = number f (silo-of s) p-p z
-
--- the reply list of a sheet and a depth
+-- the reply list of a sheet and the depth z mm below the brim, with p_p as the answer list has it there
 abbrev pub RoundOf : FillingNumbers → (ℕ → ℕ) → List ℕ → ℕ → List ℤ → Type 0
-RoundOf f c s z list = Round c (d-c (section-of s)) (patch-at f s z) list
+RoundOf f c s z list = Round c (d-c (section-of s)) (number f (silo-of s) p-p z) list
 
 unfoldable pub is-circle : Section → Bool
 is-circle (Circle d) = true

@@ -1,7 +1,15 @@
--- A magnifier as the program holds it.
-use Prim.Native.Nat.{_*_, _^_, _≤_, _<_}
+-- C_h and C_w as the program works them out, and a magnifier as it holds it.
+use Prim.Native.Nat.{ℕ, _-_, _*_, _^_, _≤_, _<_}
 use Rattle.fraction.specs.Fraction.{Fraction}
 use Rattle.discharge.specs.declared.Magnifier.{Magnifier}
+use Rattle.discharge.specs.Discharge.{magnifier}
+
+-- C_h, and C_w; C0 in hundredths, h and d_c in mm
+abbrev pub horizontal-magnifier : ℕ → ℕ → ℕ → Fraction
+horizontal-magnifier C0 h d = magnifier C0 (2 * (C0 - 100)) h d
+
+abbrev pub friction-magnifier : ℕ → ℕ → Fraction
+friction-magnifier h d = magnifier 110 20 h d
 
 abbrev pub held : Fraction → Magnifier
 held C = record { top = C .top; bottom = C .bottom }

@@ -3,8 +3,17 @@
 use Prim.Native.Nat.{ℕ, _+_, _-_, _*_, _/_, _%_, _^_, max}
 use mathlib.Core.List.{List}
 use lib.ListN.{getD}
-use Rattle.fraction.specs.Fraction.{up, _⊘_}
+use Rattle.fraction.specs.Fraction.{Fraction, _⊘_, whole, _⊗_, _⪯_, _≺_, up}
+use Rattle.exponential.specs.Series.{S}
 use Rattle.exponential.specs.program.Table.{table}
+
+-- t is at most 2^40·e^(-q): t·S_n ≤ 2^40 for every n
+abbrev pub Below : ℕ → Fraction → Type 0
+Below t q = (n : ℕ) → whole t ⊗ S n q ⪯ whole (2 ^ 40)
+
+-- t is more than 2^40·e^(-q): t·S_n > 2^40 for some n
+abbrev pub Above : ℕ → Fraction → Type 0
+Above t q = (n : ℕ) × (whole (2 ^ 40) ≺ whole t ⊗ S n q)
 
 -- 2^33 times the first terms 4 + 3y + y² + y³/6 of (4 - y)·e^y at y = j/2^33, each rounded up
 unfoldable pub denominator : ℕ → ℕ

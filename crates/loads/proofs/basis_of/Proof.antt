@@ -3,8 +3,7 @@ use borrow.Author.Needs.{needs}
 use Prim.Native.Nat.{ℕ, _+_, _^_, _≤_}
 use mathlib.Core.Path.{_≡_, _∙_, ap, ap₂}
 use native.Mathlib.Omega.{arith}
-use Rattle.discharge.specs.Discharge.{horizontal-magnifier, friction-magnifier}
-use Rattle.discharge.specs.program.Magnifier.{held}
+use Rattle.discharge.specs.program.Magnifier.{horizontal-magnifier, friction-magnifier, held}
 use Rattle.loads.specs.declared.Silo.{Silo}
 use Rattle.loads.specs.Load.{load-depth}
 use Rattle.loads.specs.program.Basis.{Fits}

@@ -1,7 +1,7 @@
 -- What is worked out once for a silo, what the silo of an accepted sheet meets, and the numbers of a depth in the program's order.
 use Prim.Native.Nat.{ℕ, _*_, _≤_}
 use mathlib.Core.Path.{_≡_}
-use mathlib.Core.List.{List, [], _∷_, map}
+use mathlib.Core.List.{List, map}
 use Rattle.janssen.specs.Section.{d-c}
 use Rattle.janssen.specs.Filling.{grain-of}
 use Rattle.janssen.specs.program.Range.{Within, InRange, InDepth}
@@ -10,9 +10,7 @@ use Rattle.janssen.specs.program.Prepare.{prepared-for}
 use Rattle.discharge.specs.program.Magnifier.{held}
 use Rattle.loads.specs.declared.Silo.{Silo}
 use Rattle.loads.specs.declared.Basis.{Basis}
-use Rattle.loads.specs.Load.{Load}
-use Rattle.loads.specs.Load.{load-depth, C-h, C-w, number}
-use Rattle.loads.specs.Load.Load.{listed-depth, p-hf, p-wf, p-vf, P-w, p-he, p-we, p-p}
+use Rattle.loads.specs.Load.{eight, load-depth, C-h, C-w, number}
 
 abbrev pub basis-for : Silo → Basis
 basis-for c = record {
@@ -42,8 +40,5 @@ pub record Sound (b : Basis) : Type 0 where
   pub right : b ≡ basis-for (b .silo)
 
 -- the numbers of a depth
-abbrev pub eight : List Load
-eight = listed-depth ∷ p-hf ∷ p-wf ∷ p-vf ∷ P-w ∷ p-he ∷ p-we ∷ p-p ∷ []
-
 unfoldable pub depth-numbers : Silo → ℕ → List ℕ
 depth-numbers c depth = map (λ l. number computed c l depth) eight
