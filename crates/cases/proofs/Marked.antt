@@ -5,7 +5,7 @@ use native.Mathlib.Omega.{arith}
 use lib.Dec.{ltb, leb, lit<, ltb→lt, leb→le}
 use lib.ListN.{take, drop, replicate}
 use mathlib.Core.List.{List, [], _∷_}
-use mathlib.Core.Bool.{true}
+use mathlib.Core.Bool.{true, false}
 use mathlib.Core.Path.{_≡_, refl, ap, ap₂, _∙_}
 use Rattle.fraction.specs.Fraction.{_⊘_, up}
 use Rattle.exponential.specs.program.Table.{table}
@@ -26,7 +26,7 @@ use Rattle.records.specs.Format.{u16, u32, numbers, place, kind, payload, paylo
 use Rattle.records.specs.Rules.{_unless_, first-unmet}
 use Rattle.records.proofs.Chain.{apart, skipped}
 use Rattle.description.specs.Silo.{section-of, product-sent, product-of, factor-read, eccentricities-of, bottom-of, strake-count, strakes-of, depth-count, depths-of, sum, V-of, headroom-of, h-of}
-use Rattle.sheet.specs.Refusal.{sides-met, proportion-met, strakes-met, depths-met, later-rules, length-rules, value-rules, rules-with, length-refusal, refusal-of}
+use Rattle.sheet.specs.Refusal.{sides-met, proportion-met, strakes-met, depths-met, value-rules, rules-with, length-refusal, refusal-of}
 use Rattle.sheet.proofs.Layouts.{layout-numbered}
 use Rattle.answers.specs.Length.{length-due, told}
 use Rattle.answers.specs.Answers.{silo-of}
@@ -37,12 +37,12 @@ use Rattle.cases.proofs.Factor.{same-as-155, other-than-135}
 
 -- the rules before 12 are passed over, and the shape is judged by h alone
 by-shape : (h : ℕ) (s : List ℕ) → OfHeight h s → refusal-of s ≡ first-unmet (12 unless ltb h 50000 ∷ [])
-unfolding refusal-of rules-with value-rules later-rules
+unfolding refusal-of rules-with value-rules
 by-shape h s u =
-    let shape = drop 8 (value-rules true s) in
-    let p = apart (take 8 (value-rules true s)) (layout-rules s) (layout-numbered s) (u .before) in
-    let q = skipped shape (take 8 (value-rules true s)) refl (p .1) in
-    skipped (value-rules true s) (layout-rules s) (layout-numbered s) (p .0) ∙ q ∙ simp (u .width, u .height)
+    let shape = drop 8 (value-rules false true s) in
+    let p = apart (take 8 (value-rules false true s)) (layout-rules s) (layout-numbered s) (u .before) in
+    let q = skipped shape (take 8 (value-rules false true s)) refl (p .1) in
+    skipped (value-rules false true s) (layout-rules s) (layout-numbered s) (p .0) ∙ q ∙ simp (u .width, u .height)
 
 -- h 7,499 over 5,000: C_h is 1 + 0.8·2,499/5,000 at C0 140, C_w 1 + 0.2·2,499/5,000
 module _ (g : FillingNumbers) (s : List ℕ) (u : OfHeight 7499 s) where
@@ -98,7 +98,7 @@ middle p-we = refl
 middle p-p = refl
 
 pub marked : Marked computed-by table
-unfolding load-depth D N magnifier magnified-load patch-load filling-by pressure wall-load-by load loaded-depth z0-scaled decay-by limit step P q z0 γR R Ks μ up lower-by between denominator entry-in table behind-section case-sheet rectangle-sheet refusal-of length-refusal value-rules later-rules rules-with length-rules told length-due first-unmet layout-rules record-count records-rules record-rules allowed place payload payload-length kind u16 u32 numbers section-of product-sent eccentricities-of bottom-of strake-count strakes-of depth-count depths-of sum V-of headroom-of h-of sides-met proportion-met strakes-met depths-met side-a side-b d-c product-of factor-read
+unfolding load-depth D N magnifier magnified-load patch-load filling-by pressure wall-load-by load loaded-depth z0-scaled decay-by limit step P q z0 γR R Ks μ up lower-by between denominator entry-in table behind-section case-sheet rectangle-sheet refusal-of length-refusal value-rules rules-with told length-due first-unmet layout-rules record-count records-rules record-rules allowed place payload payload-length kind u16 u32 numbers section-of product-sent eccentricities-of bottom-of strake-count strakes-of depth-count depths-of sum V-of headroom-of h-of sides-met proportion-met strakes-met depths-met side-a side-b d-c product-of factor-read
 marked =
     record {
       described = refl;
@@ -127,8 +127,8 @@ marked =
       three-times = (refl, refl);
       over-three-times = (refl, refl);
       length-told = (refl, refl);
-      e-1250 = refl;
-      e-1251 = refl;
+      e-1250 = (refl, refl);
+      e-1251 = (refl, refl);
       H-364 = refl;
       H-363 = refl;
       friction-10 = refl;

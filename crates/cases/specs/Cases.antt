@@ -3,7 +3,7 @@
 use Prim.Native.Nat.{ℕ}
 use mathlib.Core.List.{List, [], _∷_, _++_}
 use mathlib.Core.Logic.{_⊎_}
-use mathlib.Core.Bool.{true}
+use mathlib.Core.Bool.{true, false}
 use mathlib.Core.Path.{_≡_}
 use lib.ListN.{take}
 use Rattle.fraction.specs.Fraction.{whole, _⪯_}
@@ -32,17 +32,17 @@ abbrev pub heights : List ℕ → List ℕ
 heights [] = []
 heights (x ∷ l) = two-bytes x ++ heights l
 
--- the records behind the section, with μ, C0, e_i, H, r and the strakes given
-unfoldable pub behind-section : ℕ → ℕ → ℕ → ℕ → ℕ → List ℕ → List ℕ
-behind-section friction factor e H r strakes =
+-- the records behind the section, with μ, C0, e_i, e_o, H, r and the strakes given
+unfoldable pub behind-section : ℕ → ℕ → ℕ → ℕ → ℕ → ℕ → List ℕ → List ℕ
+behind-section friction factor inlet outlet H r strakes =
     record-bytes 3 (four-bytes 9000 ++ two-bytes 50 ++ two-bytes friction ++ two-bytes factor)
-    ++ record-bytes 4 (four-bytes e ++ four-bytes 0)
+    ++ record-bytes 4 (four-bytes inlet ++ four-bytes outlet)
     ++ record-bytes 5 (four-bytes H ++ four-bytes r)
     ++ record-bytes 6 (heights strakes)
     ++ record-bytes 7 (four-bytes 0 ++ four-bytes 5000)
 
-unfoldable pub case-sheet : ℕ → ℕ → ℕ → ℕ → ℕ → List ℕ → List ℕ
-case-sheet friction factor e H r strakes = record-bytes 1 (four-bytes 5000) ++ behind-section friction factor e H r strakes
+unfoldable pub case-sheet : ℕ → ℕ → ℕ → ℕ → ℕ → ℕ → List ℕ → List ℕ
+case-sheet friction factor inlet outlet H r strakes = record-bytes 1 (four-bytes 5000) ++ behind-section friction factor inlet outlet H r strakes
 
 -- five strakes of 2,000
 abbrev pub five : List ℕ
@@ -50,11 +50,11 @@ five = 2000 ∷ 2000 ∷ 2000 ∷ 2000 ∷ 2000 ∷ []
 
 -- the sheet of the cases over a rectangle in the circle's place
 unfoldable pub rectangle-sheet : ℕ → ℕ → List ℕ
-rectangle-sheet a b = record-bytes 2 (four-bytes a ++ four-bytes b) ++ behind-section 40 140 0 0 0 five
+rectangle-sheet a b = record-bytes 2 (four-bytes a ++ four-bytes b) ++ behind-section 40 140 0 0 0 0 five
 
 -- the sheet of the cases with another C0
 abbrev pub factor-sheet : ℕ → List ℕ
-factor-sheet C0 = case-sheet 40 C0 0 0 0 five
+factor-sheet C0 = case-sheet 40 C0 0 0 0 0 five
 
 -- the sheet of the cases with bytes behind its sixth record
 abbrev pub followed-by : List ℕ → List ℕ
@@ -62,14 +62,14 @@ followed-by t = factor-sheet 140 ++ t
 
 -- a sheet of that h with d_c = 5,000 that no rule before 12 refuses: 1 to 5 on its records, and the first eight on its values
 pub record OfHeight (h : ℕ) (s : List ℕ) : Type 0 where
-  pub before : first-unmet (layout-rules s ++ take 8 (value-rules true s)) ≡ 0
+  pub before : first-unmet (layout-rules s ++ take 8 (value-rules false true s)) ≡ 0
   pub width : d-c (section-of s) ≡ 5000
   pub height : h-of s ≡ h
 
 -- what every sheet of that h gets; some strakes make up that h
 pub record HeightGives (h answer : ℕ) : Type 0 where
   pub every : (s : List ℕ) → OfHeight h s → refusal-of s ≡ answer
-  pub some : (strakes : List ℕ) × OfHeight h (case-sheet 40 140 0 0 0 strakes)
+  pub some : (strakes : List ℕ) × OfHeight h (case-sheet 40 140 0 0 0 0 strakes)
 
 -- γ 9,000, Ks 50, μ 40, C0 140
 abbrev pub case-product : Product
@@ -131,15 +131,15 @@ pub record Marked (f : List ℕ → FillingNumbers) (t : List ℕ) : Type 0 wher
   pub three-times : (refusal-of (rectangle-sheet 5000 15000) ≡ 0) × (refusal-of (rectangle-sheet 15000 5000) ≡ 0)
   pub over-three-times : (refusal-of (rectangle-sheet 5000 15001) ≡ 20) × (refusal-of (rectangle-sheet 15001 5000) ≡ 20)
   pub length-told : (answers-length (rectangle-sheet 5000 15001) ≡ Due 31) × (answers-length (rectangle-sheet 15001 5000) ≡ Due 31)
-  -- e 1,250 accepted, 1,251 gives 8; r 1,000 with H 364 accepted, H 363 gives 9
-  pub e-1250 : refusal-of (case-sheet 40 140 1250 0 0 five) ≡ 0
-  pub e-1251 : refusal-of (case-sheet 40 140 1251 0 0 five) ≡ 8
-  pub H-364 : refusal-of (case-sheet 40 140 0 364 1000 five) ≡ 0
-  pub H-363 : refusal-of (case-sheet 40 140 0 363 1000 five) ≡ 9
+  -- e 1,250 accepted, 1,251 gives 8, as e_i and as e_o; r 1,000 with H 364 accepted, H 363 gives 9
+  pub e-1250 : (refusal-of (case-sheet 40 140 1250 0 0 0 five) ≡ 0) × (refusal-of (case-sheet 40 140 0 1250 0 0 five) ≡ 0)
+  pub e-1251 : (refusal-of (case-sheet 40 140 1251 0 0 0 five) ≡ 8) × (refusal-of (case-sheet 40 140 0 1251 0 0 five) ≡ 8)
+  pub H-364 : refusal-of (case-sheet 40 140 0 0 364 1000 five) ≡ 0
+  pub H-363 : refusal-of (case-sheet 40 140 0 0 363 1000 five) ≡ 9
   -- μ 10 accepted, 9 and 0 give 7; C0 99 gives 7
-  pub friction-10 : refusal-of (case-sheet 10 140 0 0 0 five) ≡ 0
-  pub friction-9 : refusal-of (case-sheet 9 140 0 0 0 five) ≡ 7
-  pub friction-0 : refusal-of (case-sheet 0 140 0 0 0 five) ≡ 7
+  pub friction-10 : refusal-of (case-sheet 10 140 0 0 0 0 five) ≡ 0
+  pub friction-9 : refusal-of (case-sheet 9 140 0 0 0 0 five) ≡ 7
+  pub friction-0 : refusal-of (case-sheet 0 140 0 0 0 0 five) ≡ 7
   pub factor-99 : refusal-of (factor-sheet 99) ≡ 7
   -- C0 0 acts as 155 (document 02, C-14): accepted; lent the same list, the load call answers the same and leaves the same list
   pub factor-0 : refusal-of (factor-sheet 0) ≡ 0

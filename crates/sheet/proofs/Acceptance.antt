@@ -1,8 +1,8 @@
 -- A sheet is not refused exactly when it is `Accepted`: no rule of the chain refuses when each is met, and each rule's test says the
 -- inequalities of `Accepted`.
 use Prim.Native.Nat.{ℕ, _*_, _≤_, _<_, min, max}
-use mathlib.Core.Bool.{true, _&&_, _||_}
-use mathlib.Core.List.{List, _∷_}
+use mathlib.Core.Bool.{true, false, _&&_, _||_}
+use mathlib.Core.List.{List}
 use mathlib.Core.Logic.{_⊎_, inl, inr, ⊎-elim}
 use mathlib.Core.Path.{_≡_, refl, sym, ap, _∙_}
 use native.Mathlib.Omega.{arith}
@@ -17,14 +17,14 @@ use Rattle.janssen.specs.Filling.{grain-of}
 use Rattle.janssen.specs.program.Range.{Within, InRange}
 use Rattle.description.specs.declared.Eccentricities.{Eccentricities}
 use Rattle.description.specs.declared.Bottom.{Bottom}
-use Rattle.records.specs.Rules.{within, _unless_, first-unmet}
+use Rattle.records.specs.Rules.{within, first-unmet}
 use Rattle.records.specs.Format.{u32, layout-rules}
 use Rattle.records.proofs.Tests.{both-true, either-true, either-right, within-true, true-within}
 use Rattle.records.proofs.Chain.{met-at, met, apart, skipped}
 use Rattle.records.proofs.Numbers.{numbers-length}
 use Rattle.description.specs.Silo.{section-of, product-sent, eccentricities-of, bottom-of, strakes-of, depths-of, depth-count, V-of, headroom-of, h-of}
 use Rattle.description.proofs.Walls.{strakes-length}
-use Rattle.sheet.specs.Refusal.{side-met, sides-met, proportion-met, product-met, flat, hopper, later-rules, value-rules, length-rules, rules-with, length-refusal, refusal-of}
+use Rattle.sheet.specs.Refusal.{sides-met, proportion-met, product-met, flat, hopper, value-rules, rules-with, length-refusal, refusal-of}
 use Rattle.sheet.specs.Accepted.{Hopper, Measured, Accepted}
 use Rattle.sheet.proofs.Heights.{strakes-met-at, at-strakes-met, rising-most, rising-next, next-rising}
 use Rattle.sheet.proofs.Layouts.{layout-numbered, layout-of, of-layout}
@@ -45,7 +45,7 @@ within-in {low} {high} {x} w = true-within low high x (w .least) (w .most)
 range-of : (c : Section) (p : Product) → sides-met c ≡ true → product-met p ≡ true → InRange c (grain-of p) × ((p .factor ≡ 0) ⊎ Within 100 200 (p .factor))
 unfolding sides-met
 range-of c p hs hp =
-    let sides = both-true (side-met (side-a c)) (side-met (side-b c)) hs in
+    let sides = both-true (within 500 50000 (side-a c)) (within 500 50000 (side-b c)) hs in
     let w = within 1000 30000 (p .weight) in
     let k = within 20 100 (p .ratio) in
     let m = within 10 100 (p .friction) in
@@ -128,13 +128,13 @@ module _ (s : List ℕ) where
 
   -- not refused where a length is asked for: measured
   pub measured : length-refusal s ≡ 0 → Measured s
-  unfolding length-refusal length-rules later-rules
+  unfolding length-refusal rules-with value-rules
   measured h =
-      let values = 6 unless sides-met (section-of s) ∷ later-rules true s in
+      let values = value-rules true true s in
       let parts = apart values (layout-rules s) (layout-numbered s) h in
       let m : (i : ℕ) → met-at values i ≡ true = met values refl (parts .1) in
-      let ranges = range-of (section-of s) (product-sent s) (m 0) (m 1) in
-      let central = both-true (leb (4 * e .inlet) dc) (leb (4 * e .outlet) dc) (m 2) in
+      let ranges = range-of (section-of s) (product-sent s) (m 0) (m 2) in
+      let central = both-true (leb (4 * e .inlet) dc) (leb (4 * e .outlet) dc) (m 3) in
       let n = strakes-length s in
       let d = depths-length s in
       record {
@@ -145,18 +145,18 @@ module _ (s : List ℕ) where
               factor-range = ranges .1;
               inlet-most = leb-true (4 * e .inlet) dc (central .0);
               outlet-most = leb-true (4 * e .outlet) dc (central .1);
-              bottom-shape = bottom-shape dc (bottom-of s) (m 3);
+              bottom-shape = bottom-shape dc (bottom-of s) (m 4);
             };
-        strakes-range = λ i j. let p = strakes-met-at (strakes-of s) (m 4) i (omega arith) in record { least = p .0; most = p .1 };
-        depths-most = λ i j. rising-most (V-of s) 0 (depths-of s) (m 5) i (omega arith);
-        depths-rise = λ i j. rising-next (V-of s) 0 (depths-of s) (m 5) i (omega arith);
-        headroom-less = ltb-true (headroom-of s) (V-of s) (m 6);
-        below-ten = ltb-true (h-of s) (10 * dc) (m 7);
+        strakes-range = λ i j. let p = strakes-met-at (strakes-of s) (m 5) i (omega arith) in record { least = p .0; most = p .1 };
+        depths-most = λ i j. rising-most (V-of s) 0 (depths-of s) (m 6) i (omega arith);
+        depths-rise = λ i j. rising-next (V-of s) 0 (depths-of s) (m 6) i (omega arith);
+        headroom-less = ltb-true (headroom-of s) (V-of s) (m 7);
+        below-ten = ltb-true (h-of s) (10 * dc) (m 8);
       }
 
   -- measured: not refused where a length is asked for
   pub length-told : Measured s → length-refusal s ≡ 0
-  unfolding length-refusal length-rules first-unmet later-rules
+  unfolding length-refusal rules-with first-unmet value-rules
   length-told a =
       let c = section-of s in
       let v = a .values in
@@ -177,12 +177,12 @@ module _ (s : List ℕ) where
 
   -- not refused where loads are asked for: accepted
   pub accepted : refusal-of s ≡ 0 → Accepted s
-  unfolding refusal-of rules-with value-rules later-rules
+  unfolding refusal-of rules-with value-rules
   accepted h =
-      let values = apart (value-rules true s) (layout-rules s) (layout-numbered s) h .1 in
+      let values = apart (value-rules false true s) (layout-rules s) (layout-numbered s) h .1 in
       record {
         measured = measured (accepted-measured s h);
-        proportion = proportion-of (section-of s) (met (value-rules true s) refl values 1);
+        proportion = proportion-of (section-of s) (met (value-rules false true s) refl values 1);
       }
 
   -- accepted: not refused where loads are asked for

@@ -15,8 +15,8 @@ use Rattle.janssen.specs.program.Range.{Within, InRange}
 use Rattle.description.specs.Silo.{section-of, product-sent, product-of, factor-read, strakes-of, strake-count, depths-of, sum, V-of, headroom-of, h-of, edge-of}
 use Rattle.description.specs.program.Described.{wall-of, described-of}
 use Rattle.sheet.specs.declared.Asked.{Asked}
-use Rattle.sheet.specs.Refusal.{later-rules}
-use Rattle.sheet.specs.program.Judged.{asked-values, described-rules}
+use Rattle.sheet.specs.Refusal.{value-rules}
+use Rattle.sheet.specs.program.Judged.{tells, described-rules}
 use Rattle.sheet.specs.Accepted.{Measured}
 use Rattle.description.proofs.Walls.{strakes-length, wall-fits}
 use Rattle.description.proofs.Sums.{sum-next, sum-take}
@@ -40,8 +40,8 @@ factor-range c x =
 
 -- the rules of the silo described are those of the sheet's values
 pub described-judged : (asked : Asked) (s : List ℕ) (z : ℕ) → strake-count s ≤ 24
-    → described-rules asked (described-of s) (depths-of s) z ≡ asked-values asked (leb z (V-of s)) s
-unfolding described-rules asked-values later-rules wall-of h-of
+    → described-rules asked (described-of s) (depths-of s) z ≡ value-rules (tells asked) (leb z (V-of s)) s
+unfolding described-rules value-rules wall-of h-of
 described-judged asked s z h = rw (wall-fits s h .1) refl
 
 module _ (s : List ℕ) where

@@ -2,6 +2,7 @@
 -- (`SameRecord`) makes its part the same; s has its records in order. With every part but the product the same (`SameParts`) the rules are the same but
 -- for 7 (`values-same`), and sheets with the same rules are refused alike (`refused-alike`).
 use Prim.Native.Nat.{ℕ, _+_, _/_, _≤_, _<_}
+use mathlib.Core.Bool.{Bool, true, false}
 use mathlib.Core.List.{List}
 use mathlib.Core.Logic.{⊎-elim}
 use mathlib.Core.Path.{_≡_, refl, ap, sym, _∙_}
@@ -13,13 +14,10 @@ use Rattle.records.specs.Format.{u16, u32, place, kind, payload, payload-length
 use Rattle.records.proofs.Records.{place-next}
 use Rattle.records.proofs.Alike.{SameBytes, SameRecord, u16-same, u32-same, two-in, four-in, payload-length-same, kind-same, pair-same, list-same}
 use Rattle.description.specs.Silo.{section-of, product-sent, eccentricities-of, bottom-of, strake-count, strakes-of, depth-count, depths-of, V-of, headroom-of, h-of}
-use Rattle.sheet.specs.declared.Asked.{Asked}
-use Rattle.sheet.specs.declared.Asked.the-variants.{Length, Loads}
-use Rattle.sheet.specs.Refusal.{product-met, later-rules, sheet-rules-at, length-refusal, refusal-of}
-use Rattle.sheet.specs.program.Judged.{asked-values, asked-rules}
+use Rattle.sheet.specs.Refusal.{product-met, value-rules, rules-with, sheet-rules-at, length-refusal, refusal-of}
 use Rattle.sheet.specs.Accepted.{Layout}
 use Rattle.sheet.proofs.Layouts.{layout-of}
-use Rattle.sheet.proofs.Chains.{records-refused, values-refused, loads-asked, length-asked, at-brim}
+use Rattle.sheet.proofs.Chains.{records-refused, values-refused, length-asked, at-brim}
 
 -- γ, Ks and μ stand in the twelve bytes of the second record before C0
 pub means-same : (s s' : List ℕ) → place s 1 ≡ place s' 1 → SameBytes s s' (place s 1) (place s 1 + 12)
@@ -119,31 +117,31 @@ module _ (s s' : List ℕ) where
 
   -- the rules of the values, whatever is asked for and with any depth given
   abbrev pub SameRules : Type 0
-  SameRules = (asked : Asked) (z : ℕ) → asked-values asked (leb z (V-of s)) s ≡ asked-values asked (leb z (V-of s')) s'
+  SameRules = (told : Bool) (z : ℕ) → value-rules told (leb z (V-of s)) s ≡ value-rules told (leb z (V-of s')) s'
 
   pub values-same : SameParts s s' → product-met (product-sent s) ≡ product-met (product-sent s') → SameRules
-  unfolding asked-values later-rules h-of V-of
-  values-same p e asked z = rw (p .sections, e, p .eccentricities, p .bottoms, p .strakes, p .depths, p .headrooms) refl
+  unfolding value-rules h-of V-of
+  values-same p e told z = rw (p .sections, e, p .eccentricities, p .bottoms, p .strakes, p .depths, p .headrooms) refl
 
   -- rules 1 to 5 answer the same, and the others are the same where those pass
   module _ (records : first-unmet (layout-rules s) ≡ first-unmet (layout-rules s')) (values : Layout s → SameRules) where
-    module _ (asked : Asked) (z : ℕ) where
-      same-by : Dec (first-unmet (layout-rules s) ≤ 0) → first-unmet (asked-rules asked z s) ≡ first-unmet (asked-rules asked z s')
+    module _ (told : Bool) (z : ℕ) where
+      same-by : Dec (first-unmet (layout-rules s) ≤ 0) → first-unmet (rules-with told (leb z (V-of s)) s) ≡ first-unmet (rules-with told (leb z (V-of s')) s')
       same-by (yes o) =
           let h : first-unmet (layout-rules s) ≡ 0 = omega arith in
-          sym (values-refused asked z s h refl) ∙ ap first-unmet (values (layout-of s h) asked z) ∙ values-refused asked z s' (sym records ∙ h) refl
+          sym (values-refused told z s h refl) ∙ ap first-unmet (values (layout-of s h) told z) ∙ values-refused told z s' (sym records ∙ h) refl
       same-by (no o) =
           let n : first-unmet (layout-rules s) ≡ 0 → ⊥ = λ e. o (omega (arith, e)) in
-          sym (records-refused asked z s refl n) ∙ records ∙ records-refused asked z s' refl (λ e. n (records ∙ e))
+          sym (records-refused told z s refl n) ∙ records ∙ records-refused told z s' refl (λ e. n (records ∙ e))
 
-      asked-same : first-unmet (asked-rules asked z s) ≡ first-unmet (asked-rules asked z s')
+      asked-same : first-unmet (rules-with told (leb z (V-of s)) s) ≡ first-unmet (rules-with told (leb z (V-of s')) s')
       asked-same = same-by (decLe (first-unmet (layout-rules s)) 0)
 
     pub refused-alike : RefusedAlike s s'
     refused-alike =
         record {
-          lengths = sym (length-asked s) ∙ asked-same Length 0 ∙ length-asked s';
-          loads-at = λ z. sym (ap first-unmet (loads-asked z s)) ∙ asked-same Loads z ∙ ap first-unmet (loads-asked z s');
+          lengths = sym (length-asked s) ∙ asked-same true 0 ∙ length-asked s';
+          loads-at = asked-same false;
         }
 
   pub loads-alike : RefusedAlike s s' → refusal-of s ≡ refusal-of s'

@@ -1,7 +1,6 @@
--- The rules of a sheet in order, and the first refusal that applies to it. Document 01, "Who can be refused"; document 02, C-13, C-16 and
--- C-17. Two chains: a call that only tells a length or a count has the rules of the other calls less one, 20.
+-- The rules of a sheet in order, and the first refusal that applies to it. Document 01, "Who can be refused"; document 02, C-13, C-16 and C-17.
 use Prim.Native.Nat.{ℕ, _+_, _*_, min, max}
-use mathlib.Core.Bool.{Bool, true, _&&_, _||_}
+use mathlib.Core.Bool.{Bool, true, false, _&&_, _||_}
 use mathlib.Core.List.{List, [], _∷_, _++_}
 use lib.Dec.{leb, ltb, eqb}
 use Rattle.janssen.specs.declared.Section.{Section}
@@ -15,11 +14,8 @@ use Rattle.records.specs.Format.{layout-rules}
 use Rattle.description.specs.Silo.{section-of, product-sent, eccentricities-of, bottom-of, strakes-of, depths-of, V-of, headroom-of, h-of}
 
 -- 6: d, a and b from 500 to 50,000
-abbrev pub side-met : ℕ → Bool
-side-met = within 500 50000
-
 unfoldable pub sides-met : Section → Bool
-sides-met c = side-met (side-a c) && side-met (side-b c)
+sides-met c = within 500 50000 (side-a c) && within 500 50000 (side-b c)
 
 -- 20: the long side of a rectangle at most three times the short one
 unfoldable pub proportion-met : Section → Bool
@@ -54,11 +50,13 @@ unfoldable pub depths-met : ℕ → ℕ → List ℕ → Bool
 depths-met top low [] = true
 depths-met top low (z ∷ l) = within low top z && depths-met top (z + 1) l
 
--- the rules of a sheet's values behind those of its section, in order; 11 is of the listed depths and of one given beside the sheet, which is at most V
--- or is not; 17: g < V; 12: h < 10·d_c; 13 is retired (document 02, C-11)
-unfoldable pub later-rules : Bool → List ℕ → List Rule
-later-rules given s =
-    7 unless product-met (product-sent s)
+-- the rules of a sheet's values, in order. 20 is not tried where only a length or a count is told; 11 is of the listed depths and of one given beside the
+-- sheet, which is at most V or is not; 17: g < V; 12: h < 10·d_c; 13 is retired (document 02, C-11)
+unfoldable pub value-rules : Bool → Bool → List ℕ → List Rule
+value-rules told given s =
+    6 unless sides-met (section-of s)
+    ∷ 20 unless (told || proportion-met (section-of s))
+    ∷ 7 unless product-met (product-sent s)
     ∷ 8 unless eccentricities-met (d-c (section-of s)) (eccentricities-of s)
     ∷ 9 unless (flat (bottom-of s) || hopper (d-c (section-of s)) (bottom-of s))
     ∷ 10 unless strakes-met (strakes-of s)
@@ -67,27 +65,20 @@ later-rules given s =
     ∷ 12 unless ltb (h-of s) (10 * d-c (section-of s))
     ∷ []
 
--- a call that only tells a length or a count: 1 to 5 on the records, then 6 and the later ones on the values
-unfoldable pub length-rules : List ℕ → List Rule
-length-rules s = layout-rules s ++ (6 unless sides-met (section-of s) ∷ later-rules true s)
+-- 1 to 5 on the records, then those of the values
+unfoldable pub rules-with : Bool → Bool → List ℕ → List Rule
+rules-with told given s = layout-rules s ++ value-rules told given s
 
--- a call that works loads out: 20 directly after 6
-unfoldable pub value-rules : Bool → List ℕ → List Rule
-value-rules given s = 6 unless sides-met (section-of s) ∷ 20 unless proportion-met (section-of s) ∷ later-rules given s
-
-unfoldable pub rules-with : Bool → List ℕ → List Rule
-rules-with given s = layout-rules s ++ value-rules given s
-
--- of a sheet alone, and of a sheet beside which the depth z mm is given
+-- where loads are worked out: of a sheet alone, and of a sheet beside which the depth z mm is given
 abbrev pub sheet-rules : List ℕ → List Rule
-sheet-rules s = rules-with true s
+sheet-rules s = rules-with false true s
 
 abbrev pub sheet-rules-at : List ℕ → ℕ → List Rule
-sheet-rules-at s z = rules-with (leb z (V-of s)) s
+sheet-rules-at s z = rules-with false (leb z (V-of s)) s
 
--- 0, or the number of the first refusal: where a length is asked for, and where loads are
+-- 0, or the number of the first refusal: where a length is told, and where loads are worked out
 unfoldable pub length-refusal : List ℕ → ℕ
-length-refusal s = first-unmet (length-rules s)
+length-refusal s = first-unmet (rules-with true true s)
 
 unfoldable pub refusal-of : List ℕ → ℕ
 refusal-of s = first-unmet (sheet-rules s)

@@ -7,7 +7,8 @@ ghost use Rattle.records.specs.program.Reader.{Located};
 ghost use Rattle.description.specs.program.Described.{described-of, Sized};
 ghost use lib.Dec.{leb};
 ghost use Rattle.description.specs.Silo.{V-of};
-ghost use Rattle.sheet.specs.program.Judged.{asked-values, Examined};
+ghost use Rattle.sheet.specs.program.Judged.{tells, Examined};
+ghost use Rattle.sheet.specs.Refusal.{value-rules};
 use description::Bottom;
 use description::Depths;
 use description::Described;
@@ -34,7 +35,7 @@ pub struct Judged {
 // mm.
 fn judge(asked: Asked, sheet: &[u8], places: &[usize; 7], depth: u64) -> Judged
     requires { ⌜ (first-unmet (layout-rules (now sheet)) ≡ 0) × Located (now sheet) (now places) ⌝ }
-    ensures { λ r. ⌜ (r .refused ≡ first-unmet (asked-values asked (leb depth (V-of (now (sheet .entry)))) (now (sheet .entry)))) × (r .described ≡ described-of (now (sheet .entry))) × Sized (r .described) ⌝ }
+    ensures { λ r. ⌜ (r .refused ≡ first-unmet (value-rules (tells asked) (leb depth (V-of (now (sheet .entry)))) (now (sheet .entry)))) × (r .described ≡ described-of (now (sheet .entry))) × Sized (r .described) ⌝ }
 {
     let described = description::describe(sheet, places);
     let refused = rules::values_refusal(asked, sheet, described, depth);

@@ -1,4 +1,5 @@
 // Rules 6 to 12, 17 and 20, each a test; dc is d_c, mm.
+ghost use mathlib.Core.Bool.{_||_};
 ghost use mathlib.Core.Path.{_≡_};
 ghost use Prim.Native.Nat.{_*_, _<_, _≤_};
 ghost use lib.Dec.{leb, ltb};
@@ -8,7 +9,7 @@ ghost use Rattle.description.specs.Silo.{depths-of};
 ghost use Rattle.janssen.specs.Section.{side-a, side-b};
 ghost use Rattle.description.specs.program.Described.{depths-in, Sized};
 ghost use Rattle.sheet.specs.Refusal.{sides-met, proportion-met, product-met, eccentricities-met, flat, hopper, strakes-met, depths-met};
-ghost use Rattle.sheet.specs.program.Judged.{proportion-asked, described-rules};
+ghost use Rattle.sheet.specs.program.Judged.{tells, described-rules};
 use crate::Asked;
 use description::Bottom;
 use description::Depths;
@@ -49,7 +50,7 @@ fn proportion_met(section: Section) -> bool
 // Rule 20 where loads are asked for; a length is told of any section.
 fn proportion_asked(asked: Asked, section: Section) -> bool
     requires { ⌜ (side-a section < 4294967296) × (side-b section < 4294967296) ⌝ }
-    ensures { λ r. ⌜ r ≡ proportion-asked asked section ⌝ }
+    ensures { λ r. ⌜ r ≡ (tells asked || proportion-met section) ⌝ }
 {
     match asked {
         Asked::Length => true,

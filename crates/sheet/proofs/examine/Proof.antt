@@ -2,6 +2,7 @@
 use mathlib.Core.Path.{sym, _∙_}
 use denote.Ref.{now}
 use borrow.Author.Needs.{needs}
+use Rattle.sheet.specs.program.Judged.{tells}
 use Rattle.sheet.proofs.Chains.{records-refused, values-refused}
 use Rattle.sheet.proofs.examine.Statement.{statement}
 use Rattle.sheet.proofs.examine.Tie as tie
@@ -17,7 +18,7 @@ returns c =
     let a = c .before .before .before .before .before .args in
     let s = now (a .sheet) in
     record {
-      refusal = records-refused (a .asked) (a .depth) s (c .before .before .find-records .ensures .0) (c .before .if1 .taken);
+      refusal = records-refused (tells (a .asked)) (a .depth) s (c .before .before .find-records .ensures .0) (c .before .if1 .taken);
       silo = λ z. absurd (c .before .if1 .taken z);
       sized = c .blank .ensures;
     }
@@ -33,7 +34,7 @@ returns-2 c =
     let a = c .before .before .before .before .before .before .args in
     let s = now (a .sheet) in
     record {
-      refusal = values-refused (a .asked) (a .depth) s (sym (laid .before .find-records .ensures .0) ∙ laid .if1 .left) (c .judge .ensures .0);
+      refusal = values-refused (tells (a .asked)) (a .depth) s (sym (laid .before .find-records .ensures .0) ∙ laid .if1 .left) (c .judge .ensures .0);
       silo = λ _. c .judge .ensures .1;
       sized = c .judge .ensures .2;
     }

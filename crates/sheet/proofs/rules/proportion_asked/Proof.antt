@@ -1,7 +1,9 @@
 use mathlib.Core.Path.{sym, ap, _∙_}
+use mathlib.Core.Bool.{_||_}
 use borrow.Author.Needs.{needs}
 use Rattle.sheet.specs.declared.Asked.{Asked}
-use Rattle.sheet.specs.program.Judged.{proportion-asked}
+use Rattle.sheet.specs.Refusal.{proportion-met}
+use Rattle.sheet.specs.program.Judged.{tells}
 use Rattle.sheet.proofs.rules.proportion_asked.Statement.{statement}
 use Rattle.sheet.proofs.rules.proportion_asked.Tie as tie
 
@@ -15,14 +17,12 @@ proportion-met-requires : tie.Need-proportion-met-requires
 proportion-met-requires c κs = search needs
 
 returns : tie.Need-returns
-unfolding proportion-asked
-returns c = sym (ap (λ (asked : Asked). proportion-asked asked (c .before .before .args .section)) (c .enum-told .given .1))
+returns c = sym (ap (λ (asked : Asked). tells asked || proportion-met (c .before .before .args .section)) (c .enum-told .given .1))
 
 returns-2 : tie.Need-returns-2
-unfolding proportion-asked
 returns-2 c =
     let start = c .before .before .before in
-    c .proportion-met .ensures ∙ sym (ap (λ (asked : Asked). proportion-asked asked (start .args .section)) (c .before .enum-told2 .given .1))
+    c .proportion-met .ensures ∙ sym (ap (λ (asked : Asked). tells asked || proportion-met (start .args .section)) (c .before .enum-told2 .given .1))
 
 pub proportion-asked-spec : {M : Type 1} → statement M
 proportion-asked-spec =
