@@ -64,7 +64,8 @@ fn fill_strakes(
     while state.passed < count {
         let k = state.passed;
         state = state.lowered(heights[k]);
-        list[at + k] = loads::strake_number(entries, basis, state.edge);
+        let p_he = loads::horizontal_discharge(entries, basis, state.edge);
+        list[at + k] = p_he.0;
     }
 }
 

@@ -168,9 +168,9 @@ module _ (b : Basis) (sound : Sound b) where
       subst (λ (x : Basis). AllReach (x .prepared) at) (sym (sound .right))
       (rw e (all-reach (b .silo .section) (grain-of (b .silo .product)) (load-depth (b .silo) depth) (sound .fits .range) d))
 
-  pub shorter-fits : (0 < b .shorter) × (b .shorter ≤ 50000) × (4 * b .silo .eccentricity ≤ b .shorter)
-  shorter-fits =
-      let e : b .shorter ≡ d-c (b .silo .section) = ap (λ (x : Basis). x .shorter) (sound .right) in
+  pub dc-fits : (0 < b .dc) × (b .dc ≤ 50000) × (4 * b .silo .eccentricity ≤ b .dc)
+  dc-fits =
+      let e : b .dc ≡ d-c (b .silo .section) = ap (λ (x : Basis). x .dc) (sound .right) in
       (omega (arith, dc-positive (b .silo) (sound .fits)), omega (arith, dc-most (b .silo) (sound .fits)), omega (arith, sound .fits .eccentricity-most))
 
   pub magnifiers-moderate : Moderate (b .horizontal) × Moderate (b .friction)

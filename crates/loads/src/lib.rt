@@ -34,7 +34,7 @@ pub struct Basis {
     pub silo: Silo,
     pub prepared: Prepared,
     // d_c, mm
-    pub shorter: u64,
+    pub dc: u64,
     // C_h and C_w
     pub horizontal: Magnifier,
     pub friction: Magnifier,
@@ -59,14 +59,14 @@ pub fn basis_of(silo: Silo) -> Basis
     let section = silo.section;
     let product = silo.product;
     let prepared = janssen::prepare(section, product);
-    let shorter = janssen::shorter_side(section);
+    let dc = janssen::shorter_side(section);
     let h = load_depth(silo, silo.foot) + silo.height;
-    let horizontal = discharge::horizontal_magnifier(product.factor, h, shorter);
-    let friction = discharge::friction_magnifier(h, shorter);
+    let horizontal = discharge::horizontal_magnifier(product.factor, h, dc);
+    let friction = discharge::friction_magnifier(h, dc);
     Basis {
         silo,
         prepared,
-        shorter,
+        dc,
         horizontal,
         friction,
     }
@@ -87,7 +87,7 @@ pub fn depth_numbers(entries: &[u64; 3393], basis: Basis, z: u64) -> [u32; 8]
     let c_w = basis.friction;
     let p_he = discharge::magnified(c_h, p_hf);
     let p_we = discharge::magnified(c_w, p_wf);
-    let p_p = discharge::patch(silo.eccentricity, basis.shorter, p_he);
+    let p_p = discharge::patch(silo.eccentricity, basis.dc, p_he);
     [
         z as u32,
         p_hf.0,
@@ -173,25 +173,24 @@ pub fn bottom_numbers(entries: &[u64; 3393], basis: Basis) -> [u32; 10]
     hopper_numbers(silo, vertical)
 }
 
-// A strake's number: p_he at its lower edge, edge mm below the brim.
-pub fn strake_number(entries: &[u64; 3393], basis: Basis, edge: u64) -> u32
-    requires { ⌜ (now entries ≡ table) × Sound basis × Reached (basis .silo) edge ⌝ }
-    ensures { λ r. ⌜ r ≡ number computed (basis .silo) p-he edge ⌝ }
+// p_he z mm below the brim; a strake's number is the one at its lower edge.
+pub fn horizontal_discharge(entries: &[u64; 3393], basis: Basis, z: u64) -> Pascals
+    requires { ⌜ (now entries ≡ table) × Sound basis × Reached (basis .silo) z ⌝ }
+    ensures { λ r. ⌜ r .0 ≡ number computed (basis .silo) p-he z ⌝ }
 {
     let prepared = basis.prepared;
     let curve = prepared.horizontal;
     let silo = basis.silo;
-    let depth = load_depth(silo, edge);
-    let horizontal = janssen::filling_pressure(entries, curve, depth);
+    let depth = load_depth(silo, z);
+    let p_hf = janssen::filling_pressure(entries, curve, depth);
     let c_h = basis.horizontal;
-    let load = discharge::magnified(c_h, horizontal);
-    load.0
+    discharge::magnified(c_h, p_hf)
 }
 
 // p_p z mm below the brim.
-pub fn patch_number(entries: &[u64; 3393], basis: Basis, z: u64) -> u32
+pub fn patch_load(entries: &[u64; 3393], basis: Basis, z: u64) -> Pascals
     requires { ⌜ (now entries ≡ table) × Sound basis × Reached (basis .silo) z ⌝ }
-    ensures { λ r. ⌜ r ≡ number computed (basis .silo) p-p z ⌝ }
+    ensures { λ r. ⌜ r .0 ≡ number computed (basis .silo) p-p z ⌝ }
 {
     let prepared = basis.prepared;
     let horizontal = prepared.horizontal;
@@ -200,7 +199,6 @@ pub fn patch_number(entries: &[u64; 3393], basis: Basis, z: u64) -> u32
     let p_hf = janssen::filling_pressure(entries, horizontal, depth);
     let c_h = basis.horizontal;
     let p_he = discharge::magnified(c_h, p_hf);
-    let shorter = basis.shorter;
-    let p_p = discharge::patch(silo.eccentricity, shorter, p_he);
-    p_p.0
+    let dc = basis.dc;
+    discharge::patch(silo.eccentricity, dc, p_he)
 }

@@ -56,16 +56,16 @@ module _ (s : List ℕ) (d : Described) (z : ℕ) (h : refusal-of s ≡ 0) (e : 
     patch-of-sheet : p ≡ patch-at computed s z
     patch-of-sheet = of ∙ ap (λ (x : Basis). number computed (x .silo) p-p z) of-sheet
 
-    width-of-sheet : b .shorter ≡ d-c (section-of s)
-    width-of-sheet = ap (λ (x : Basis). x .shorter) of-sheet
+    width-of-sheet : b .dc ≡ d-c (section-of s)
+    width-of-sheet = ap (λ (x : Basis). x .dc) of-sheet
 
-    pub round-asks : (b .shorter ≤ 50000) × (p < 2 ^ 21)
+    pub round-asks : (b .dc ≤ 50000) × (p < 2 ^ 21)
     round-asks = (omega (arith, width-of-sheet, width-most s z h under), omega (arith, patch-of-sheet, patch-fits s z h under))
 
-    pub round-of-sheet : (list : List ℤ) → Round entry (b .shorter) p list → RoundOf computed entry s z list
+    pub round-of-sheet : (list : List ℤ) → Round entry (b .dc) p list → RoundOf computed entry s z list
     round-of-sheet list r =
         subst (λ (n : ℕ). Round entry n (patch-at computed s z) list) width-of-sheet
-        (subst (λ (n : ℕ). Round entry (b .shorter) n list) patch-of-sheet r)
+        (subst (λ (n : ℕ). Round entry (b .dc) n list) patch-of-sheet r)
 
 -- a list's sizes are those of p_p
 sizes-in : (d p : ℕ) (list : List ℤ) → Round entry d p list → (θ : ℕ) → θ < 360 → natAbs (getD list θ (pos 0)) ≡ size entry p (folded θ)

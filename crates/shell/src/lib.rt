@@ -39,8 +39,8 @@ fn fill_by(
     ensures { λ _. ⌜ RoundOf computed entry (now (sheet .entry)) depth (now (reply .exit)) ⌝ }
 {
     let basis = answers::fill::described_basis(described);
-    let p_p = loads::patch_number(entries, basis, depth);
-    round::fill(cosines, basis.shorter, p_p as u64, reply);
+    let p_p = loads::patch_load(entries, basis, depth);
+    round::fill(cosines, basis.dc, p_p, reply);
 }
 
 // The whole list for the silo described and a depth, mm.

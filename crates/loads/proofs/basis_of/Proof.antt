@@ -53,13 +53,13 @@ returns c =
     let width = c .before .before .before .before in
     let silo = width .before .before .before .args .silo in
     let h = ap (λ (z : ℕ). z + silo .height) (c .before .before .before .load-depth .ensures) in
-    let shorter = width .shorter-side .ensures .0 in
-    let c-h = c .before .horizontal-magnifier .ensures ∙ ap₂ (λ (h d : ℕ). held (horizontal-magnifier (silo .product .factor) h d)) h shorter in
-    let c-w = c .friction-magnifier .ensures ∙ ap₂ (λ (h d : ℕ). held (friction-magnifier h d)) h shorter in
+    let dc = width .shorter-side .ensures .0 in
+    let c-h = c .before .horizontal-magnifier .ensures ∙ ap₂ (λ (h d : ℕ). held (horizontal-magnifier (silo .product .factor) h d)) h dc in
+    let c-w = c .friction-magnifier .ensures ∙ ap₂ (λ (h d : ℕ). held (friction-magnifier h d)) h dc in
     λ i. record {
       silo = silo;
       prepared = width .before .prepare .ensures i;
-      shorter = shorter i;
+      dc = dc i;
       horizontal = c-h i;
       friction = c-w i;
     }

@@ -10,7 +10,7 @@ use Rattle.janssen.specs.program.Prepare.{loads-on}
 use Rattle.discharge.specs.Discharge.{magnified-load, patch-load}
 use Rattle.loads.specs.declared.Basis.{Basis}
 use Rattle.loads.specs.program.Basis.{depth-numbers}
-use Rattle.loads.proofs.LoadLaws.{prepared-reaches, shorter-fits, magnifiers-moderate}
+use Rattle.loads.proofs.LoadLaws.{prepared-reaches, dc-fits, magnifiers-moderate}
 use Rattle.loads.proofs.depth_numbers.Statement.{statement}
 use Rattle.loads.proofs.depth_numbers.Tie as tie
 
@@ -37,7 +37,7 @@ magnified-requires-2 c κs =
 patch-requires : tie.Need-patch-requires
 patch-requires c κs =
     let start = c .before .before .before .before .before .before .before .before .before .before in
-    let d = shorter-fits (start .args .basis) (start .pre .1) in
+    let d = dc-fits (start .args .basis) (start .pre .1) in
     (d .0, d .1, d .2, c .before .magnified .ensures .1)
 
 cast-t15 : tie.Need-cast-t15
@@ -57,7 +57,7 @@ returns c =
     let w =
     c .before .magnified2 .ensures .0
     ∙ ap₂ (λ (x : Basis) (f : FillingLoads). magnified-load (x .friction .top ⊘ x .friction .bottom) (f .«wall_friction» .0)) right same in
-    let p = c .patch .ensures ∙ ap₂ (patch-load (b .silo .eccentricity)) (ap (λ (x : Basis). x .shorter) right) h in
+    let p = c .patch .ensures ∙ ap₂ (patch-load (b .silo .eccentricity)) (ap (λ (x : Basis). x .dc) right) h in
     λ i.
     start .args .z
     ∷ same i .horizontal .0

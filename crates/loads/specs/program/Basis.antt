@@ -16,7 +16,7 @@ abbrev pub basis-for : Silo → Basis
 basis-for c = record {
   silo = c;
   prepared = prepared-for (c .section) (grain-of (c .product));
-  shorter = d-c (c .section);
+  dc = d-c (c .section);
   horizontal = held (C-h c);
   friction = held (C-w c);
 }

@@ -10,15 +10,12 @@ described-basis-requires c κs =
     let start = c .before in
     fits-described (start .args .sheet .now) (start .args .described) (start .pre .3) (start .pre .2)
 
-patch-number-requires : tie.Need-patch-number-requires
-patch-number-requires c κs =
+patch-load-requires : tie.Need-patch-load-requires
+patch-load-requires c κs =
     let start = c .before .before in
     let a = start .args in
     let asks = patch-asks (a .sheet .now) (a .described) (a .depth) (start .pre .2) (start .pre .3) (start .pre .4) (c .described-basis .result) (c .described-basis .ensures) in
     (start .pre .0, asks .0, asks .1)
-
-cast-fill : tie.Need-cast-fill
-cast-fill c = search needs
 
 fill-requires : tie.Need-fill-requires
 fill-requires c κs =
@@ -26,7 +23,7 @@ fill-requires c κs =
     let made = patched .before .described-basis in
     let start = patched .before .before .before in
     let a = start .args in
-    let asks = round-asks (a .sheet .now) (a .described) (a .depth) (start .pre .2) (start .pre .3) (start .pre .4) (made .result) (made .ensures) (patched .patch-number .result) (patched .patch-number .ensures) in
+    let asks = round-asks (a .sheet .now) (a .described) (a .depth) (start .pre .2) (start .pre .3) (start .pre .4) (made .result) (made .ensures) (patched .patch-load .result .0) (patched .patch-load .ensures) in
     (start .pre .1, asks .0, asks .1, start .pre .5)
 
 same-length : tie.Need-same-length
@@ -38,7 +35,7 @@ returns c =
     let made = patched .before .described-basis in
     let start = patched .before .before .before in
     let a = start .args in
-    round-of-sheet (a .sheet .now) (a .described) (a .depth) (start .pre .2) (start .pre .3) (start .pre .4) (made .result) (made .ensures) (patched .patch-number .result) (patched .patch-number .ensures)
+    round-of-sheet (a .sheet .now) (a .described) (a .depth) (start .pre .2) (start .pre .3) (start .pre .4) (made .result) (made .ensures) (patched .patch-load .result .0) (patched .patch-load .ensures)
     (c .before .fill .last .1 .1 .1 .0) (c .before .fill .ensures)
 
 pub fill-by-spec : {M : Type 1} → statement M
@@ -46,8 +43,7 @@ fill-by-spec =
     tie.close
     (tie.spec
     described-basis-requires
-    patch-number-requires
-    cast-fill
+    patch-load-requires
     fill-requires
     same-length
     returns)

@@ -59,8 +59,8 @@ lowered-requires c κs =
     ap (λ (t : WallState). t .edge) (next-state (a .heights .now) (a .count) k test fits (l .inv .2)) in
     (omega (arith, test, start .pre), omega (arith, e, next-inside (a .heights .now) (a .count) k test fits, start .pre .6))
 
-strake-number-requires : tie.Need-strake-number-requires Inv-loop μ-loop
-strake-number-requires c κs =
+horizontal-discharge-requires : tie.Need-horizontal-discharge-requires Inv-loop μ-loop
+horizontal-discharge-requires c κs =
     let l = c .before .before .before .before .loop in
     let start = c .before .before .before .before .before .before .before in
     let a = start .args in
@@ -99,7 +99,7 @@ loop-again c =
       down ∙ ap (wall-after heights) (sym n),
       l .inv .3
           ∙ each-next (at-strake (a .basis .silo) (take (a .count) heights)) (l .list) (a .at + k) (a .at + suc k) (a .count) k test (omega arith)
-          ∙ rw (n, add-one, c .strake-number .ensures, down, next-edge heights (a .count) k test fits) refl,
+          ∙ rw (n, add-one, c .horizontal-discharge .ensures, down, next-edge heights (a .count) k test fits) refl,
     )
 
 same-length : tie.Need-same-length Inv-loop μ-loop
@@ -124,7 +124,7 @@ fill-strakes-spec =
     mul-lowered
     element-copy-out-lowered
     lowered-requires
-    strake-number-requires
+    horizontal-discharge-requires
     add-list
     mul-list
     slice-write-list

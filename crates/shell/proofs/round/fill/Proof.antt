@@ -18,7 +18,7 @@ use Rattle.shell.proofs.round.place.Reads as place-reads
 use Rattle.shell.proofs.round.size.Reads as size-reads
 
 abbrev Inv-loop : tie.InvT-loop
-Inv-loop cosines d p reply₀ degrees₀ reply degrees = (degrees ≤ 91) × (length reply ≡ 361) × RightBelow degrees p reply
+Inv-loop cosines d p reply₀ degrees₀ reply degrees = (degrees ≤ 91) × (length reply ≡ 361) × RightBelow degrees (p .0) reply
 
 abbrev μ-loop : tie.MeasureT-loop
 μ-loop cosines d p reply₀ degrees₀ reply degrees = 91 - degrees
@@ -41,10 +41,11 @@ loop-less c = search needs
 loop-again : tie.Need-loop-again Inv-loop μ-loop
 loop-again c =
     let stored = c .before .place in
-    let sized = c .before .before in
-    let within = sized .before .before in
+    let given = c .before .before in
+    let sized = given .before in
+    let within = sized .before in
     let l = within .before .loop in
-    let p = within .before .before .args .p in
+    let p = within .before .before .args .p .0 in
     let e = stored .ensures ∙ ap (placed (l .reply) (l .degrees)) (sized .size .ensures .0) in
     let under : l .degrees < 91 = within .loop-test .taken in (
       omega arith,
@@ -56,20 +57,23 @@ force-requires : tie.Need-force-requires Inv-loop μ-loop
 force-requires c κs = (c .before .before .pre .1, c .before .before .pre .2)
 
 cast-reply : tie.Need-cast-reply Inv-loop μ-loop
-cast-reply c = record { sfits = c .force .ensures .1 }
+cast-reply c = record { sfits = c .before .force .ensures .1 }
 
 slice-set-from-reply : tie.Need-slice-set-from-reply Inv-loop μ-loop
-slice-set-from-reply c = omega (arith, c .before .before .loop .inv .1)
+slice-set-from-reply c = omega (arith, c .before .before .before .loop .inv .1)
 
 same-length : tie.Need-same-length Inv-loop μ-loop
-same-length c = length-set (c .before .before .loop .reply) 360 _ ∙ c .before .before .loop .inv .1 ∙ sym (c .before .before .before .pre .3)
+same-length c =
+    let l = c .before .before .before .loop in
+    length-set (l .reply) 360 _ ∙ l .inv .1 ∙ sym (c .before .before .before .before .pre .3)
 
 returns : tie.Need-returns Inv-loop μ-loop
 returns c =
-    let l = c .before .before .loop in
-    let a = c .before .before .before .args in
-    filled (a .d) (a .p) (l .degrees) (l .reply) _ (l .inv .1) (c .before .loop-test .left) (l .inv .2)
-    (toZ-pos w32 (c .force .result) (c .force .ensures .1) ∙ ap pos (c .force .ensures .0))
+    let force = c .before .force in
+    let l = c .before .before .before .loop in
+    let a = c .before .before .before .before .args in
+    filled (a .d) (a .p .0) (l .degrees) (l .reply) _ (l .inv .1) (c .before .before .loop-test .left) (l .inv .2)
+    (toZ-pos w32 (force .result .0) (force .ensures .1) ∙ ap pos (force .ensures .0))
 
 pub fill-spec : {M : Type 1} → statement M
 fill-spec =

@@ -15,7 +15,7 @@ cast-outward : tie.Need-cast-outward
 cast-outward c = search needs
 
 sub-inward : tie.Need-sub-inward
-sub-inward c = negated-fits (c .args .size) (c .pre .2)
+sub-inward c = negated-fits (c .before .args .size .0) (c .before .pre .2)
 
 mul-outward : tie.Need-mul-outward
 mul-outward c = search needs
@@ -30,7 +30,7 @@ mul-outward-2 : tie.Need-mul-outward-2
 mul-outward-2 c = search needs
 
 slice-set-from-outward-2 : tie.Need-slice-set-from-outward-2
-slice-set-from-outward-2 c = simp length-set (omega (arith, c .pre .0, c .pre .1))
+slice-set-from-outward-2 c = simp length-set (omega (arith, c .before .pre .0, c .before .pre .1))
 
 sub-inward-2 : tie.Need-sub-inward-2
 sub-inward-2 c = search needs
@@ -39,7 +39,7 @@ mul-inward : tie.Need-mul-inward
 mul-inward c = search needs
 
 slice-set-from-inward : tie.Need-slice-set-from-inward
-slice-set-from-inward c = simp length-set (omega (arith, c .pre .0, c .pre .1))
+slice-set-from-inward c = simp length-set (omega (arith, c .before .pre .0, c .before .pre .1))
 
 add-inward : tie.Need-add-inward
 add-inward c = search needs
@@ -48,17 +48,18 @@ mul-inward-2 : tie.Need-mul-inward-2
 mul-inward-2 c = search needs
 
 slice-set-from-inward-2 : tie.Need-slice-set-from-inward-2
-slice-set-from-inward-2 c = simp length-set (omega (arith, c .pre .0, c .pre .1))
+slice-set-from-inward-2 c = simp length-set (omega (arith, c .before .pre .0, c .before .pre .1))
 
 same-length : tie.Need-same-length
 same-length c = search needs
 
 returns : tie.Need-returns
 returns c =
-    let l = c .args .reply .now in
-    let d = c .args .degrees in
-    ap₂ (λ (a b : ℤ). set (set (set (set l d a) (360 - d) a) (180 - d) b) (180 + d) b) (toZ-pos w32 (c .args .size) (c .pre .2))
-    (negated-read (c .args .size) (c .pre .2))
+    let start = c .before in
+    let l = start .args .reply .now in
+    let d = start .args .degrees in
+    ap₂ (λ (a b : ℤ). set (set (set (set l d a) (360 - d) a) (180 - d) b) (180 + d) b) (toZ-pos w32 (start .args .size .0) (start .pre .2))
+    (negated-read (start .args .size .0) (start .pre .2))
 
 pub place-spec : {M : Type 1} → statement M
 place-spec =

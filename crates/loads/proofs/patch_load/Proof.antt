@@ -7,9 +7,9 @@ use Rattle.janssen.specs.program.Pressure.{filling-by, filling}
 use Rattle.janssen.specs.program.Prepare.{pressure-on}
 use Rattle.discharge.specs.Discharge.{magnified-load, patch-load}
 use Rattle.loads.specs.declared.Basis.{Basis}
-use Rattle.loads.proofs.LoadLaws.{prepared-reaches, shorter-fits, magnifiers-moderate}
-use Rattle.loads.proofs.patch_number.Statement.{statement}
-use Rattle.loads.proofs.patch_number.Tie as tie
+use Rattle.loads.proofs.LoadLaws.{prepared-reaches, dc-fits, magnifiers-moderate}
+use Rattle.loads.proofs.patch_load.Statement.{statement}
+use Rattle.loads.proofs.patch_load.Tie as tie
 
 load-depth-requires : tie.Need-load-depth-requires
 load-depth-requires c κs = search needs
@@ -28,7 +28,7 @@ magnified-requires c κs =
 patch-requires : tie.Need-patch-requires
 patch-requires c κs =
     let start = c .before .before .before .before .before .before .before in
-    let d = shorter-fits (start .args .basis) (start .pre .1) in
+    let d = dc-fits (start .args .basis) (start .pre .1) in
     (d .0, d .1, d .2, c .magnified .ensures .1)
 
 returns : tie.Need-returns
@@ -44,7 +44,7 @@ returns c =
     let p-he =
     c .before .magnified .ensures .0
     ∙ ap₂ (λ (x : Basis) (p : ℕ). magnified-load (x .horizontal .top ⊘ x .horizontal .bottom) p) right same in
-    c .patch .ensures ∙ ap₂ (patch-load (b .silo .eccentricity)) (ap (λ (x : Basis). x .shorter) right) p-he
+    c .patch .ensures ∙ ap₂ (patch-load (b .silo .eccentricity)) (ap (λ (x : Basis). x .dc) right) p-he
 
-pub patch-number-spec : {M : Type 1} → statement M
-patch-number-spec = tie.close (tie.spec load-depth-requires filling-pressure-requires magnified-requires patch-requires returns)
+pub patch-load-spec : {M : Type 1} → statement M
+patch-load-spec = tie.close (tie.spec load-depth-requires filling-pressure-requires magnified-requires patch-requires returns)

@@ -1,4 +1,4 @@
--- The filling pressure is that of the lower edge, at its load depth.
+-- The filling pressure is that of the load depth.
 use borrow.Author.Needs.{needs}
 use Prim.Native.Nat.{ℕ}
 use mathlib.Core.Path.{_∙_, ap₂}
@@ -8,8 +8,8 @@ use Rattle.janssen.specs.program.Prepare.{pressure-on}
 use Rattle.discharge.specs.Discharge.{magnified-load}
 use Rattle.loads.specs.declared.Basis.{Basis}
 use Rattle.loads.proofs.LoadLaws.{prepared-reaches, magnifiers-moderate}
-use Rattle.loads.proofs.strake_number.Statement.{statement}
-use Rattle.loads.proofs.strake_number.Tie as tie
+use Rattle.loads.proofs.horizontal_discharge.Statement.{statement}
+use Rattle.loads.proofs.horizontal_discharge.Tie as tie
 
 load-depth-requires : tie.Need-load-depth-requires
 load-depth-requires c κs = search needs
@@ -17,7 +17,7 @@ load-depth-requires c κs = search needs
 filling-pressure-requires : tie.Need-filling-pressure-requires
 filling-pressure-requires c κs =
     let start = c .before .before .before .before in
-    (start .pre .0, prepared-reaches (start .args .basis) (start .pre .1) (start .args .edge) (c .load-depth .ensures) (start .pre .2) .horizontal-reaches)
+    (start .pre .0, prepared-reaches (start .args .basis) (start .pre .1) (start .args .z) (c .load-depth .ensures) (start .pre .2) .horizontal-reaches)
 
 magnified-requires : tie.Need-magnified-requires
 magnified-requires c κs =
@@ -37,5 +37,5 @@ returns c =
     c .magnified .ensures .0
     ∙ ap₂ (λ (x : Basis) (p : ℕ). magnified-load (x .horizontal .top ⊘ x .horizontal .bottom) p) right same
 
-pub strake-number-spec : {M : Type 1} → statement M
-strake-number-spec = tie.close (tie.spec load-depth-requires filling-pressure-requires magnified-requires returns)
+pub horizontal-discharge-spec : {M : Type 1} → statement M
+horizontal-discharge-spec = tie.close (tie.spec load-depth-requires filling-pressure-requires magnified-requires returns)
