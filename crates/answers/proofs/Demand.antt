@@ -21,7 +21,7 @@ use Rattle.sheet.proofs.Parts.{section-same, product-same}
 use Rattle.sheet.proofs.Described.{V-most, grain-below-ten, in-range, factor-in}
 use Rattle.loads.specs.declared.Silo.{Silo}
 use Rattle.loads.specs.Load.{Load}
-use Rattle.loads.specs.Load.{FillingLoad, load-depth, full-height, number}
+use Rattle.loads.specs.Load.{FillingLoad, load-depth, full-height, load-number}
 use Rattle.loads.specs.program.Basis.{Reached, Fits}
 use Rattle.janssen.proofs.Geometry.{d-c-most}
 use Rattle.loads.proofs.LoadLaws.{filling-more, holds, rises-below, bottom-holds}
@@ -79,7 +79,7 @@ module _ (s s' : List ℕ) (a : Measured s) (a' : Measured s') (e : SameSectionA
 
   -- a filling load of the other silo is no smaller at a greater depth below the surface
   number-more : {l : Load} → FillingLoad l → (z z' : ℕ) → z' ≤ V-of s' → load-depth (silo-of s) z ≤ load-depth (silo-of s') z'
-      → number computed (silo-of s) l z ≤ number computed (silo-of s') l z'
+      → load-number computed (silo-of s) l z ≤ load-number computed (silo-of s') l z'
   number-more o z z' n g = filling-more (silo-of s) (silo-of s') section-equal product-equal (silo-fits s' a') o z z' (reached s' a' z' n) g
 
 -- demand 3

@@ -13,7 +13,7 @@ use Rattle.sheet.specs.Refusal.{refusal-of}
 use Rattle.sheet.proofs.Acceptance.{accepted}
 use Rattle.sheet.proofs.Described.{V-most, edge-most}
 use Rattle.loads.specs.Load.{Load}
-use Rattle.loads.specs.Load.{eight, number}
+use Rattle.loads.specs.Load.{eight, load-number}
 use Rattle.loads.specs.Load.Load.{listed-depth, p-hf, p-wf, p-vf, P-w, p-he, p-we, p-p}
 use Rattle.loads.specs.Bound.{bound}
 use Rattle.loads.proofs.Bounds.{within-bound, bottom-within}
@@ -35,7 +35,7 @@ bound-small p-p depth h = omega arith
 
 module _ (s list : List ℕ) (h : refusal-of s ≡ 0) (fill : Filled computed s list) where
   -- a load at any depth of the wall
-  eight-down : (l : Load) (depth : ℕ) → depth ≤ 72000 → number computed (silo-of s) l depth < 10 ^ 8
+  eight-down : (l : Load) (depth : ℕ) → depth ≤ 72000 → load-number computed (silo-of s) l depth < 10 ^ 8
   eight-down l depth g = omega (arith, within-bound (silo-of s) (silo-fits s (accepted s h .measured)) l depth, bound-small l depth g)
 
   pub eight-digits : (r i : ℕ) → r < 8 → i < depth-count s → getD list (load-place (depth-count s) r i) 0 < 10 ^ 8
@@ -54,5 +54,5 @@ module _ (s list : List ℕ) (h : refusal-of s ≡ 0) (fill : Filled computed s 
     where
       go : Dec (i < length list) → getD list i 0 < 10 ^ 9
       go (yes g) =
-          every-place s (λ n. getD list n 0 < 10 ^ 9) (λ r i v u. omega (arith, eight-digits r i v u)) bottom-digits strake-digits i (omega (arith, fill .due))
+          every-place s (λ n. getD list n 0 < 10 ^ 9) (λ r i v u. omega (arith, eight-digits r i v u)) bottom-digits strake-digits i (omega (arith, fill .sized))
       go (no g) = omega (arith, List·getD-eq-default list 0 {n = i} (omega arith))

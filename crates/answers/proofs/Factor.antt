@@ -27,7 +27,7 @@ use Rattle.sheet.proofs.Described.{factor-in}
 use Rattle.sheet.proofs.Parts.{SameParts, means-same, same-parts, SameRules, values-same, RefusedAlike, refused-alike}
 use Rattle.loads.specs.declared.Silo.{Silo}
 use Rattle.loads.specs.Load.{Load}
-use Rattle.loads.specs.Load.{number, bottom-numbers}
+use Rattle.loads.specs.Load.{load-number, bottom-numbers}
 use Rattle.loads.specs.Load.Load.{p-he, p-we, p-p}
 use Rattle.loads.proofs.WithFactor.{product-with, silo-with, number-with, p-we-with, bottom-with, p-he-less, p-p-less}
 use Rattle.answers.specs.Length.{answers-length}
@@ -174,14 +174,14 @@ module _ (f : FillingNumbers) (s : List ℕ) (c : ℕ) (least : 100 ≤ c) (most
       let silo : silo-of s' ≡ silo-with c (silo-of s) = silo-written s c ten inside least two-hundred (ok .layout) in
       let m : SameParts s s' = parts-kept s c ten (ok .layout) in
       let fits = silo-fits s ok in
-      let at : (l : Load) (i : ℕ) → i < depth-count s → load-in s' list' l i ≡ number f (silo-with c (silo-of s)) l (depth s i) =
-      λ l i h. depths-by s s' m f list' (a' .filled) l i h ∙ ap (λ (x : Silo). number f x l (depth s i)) silo in
+      let at : (l : Load) (i : ℕ) → i < depth-count s → load-in s' list' l i ≡ load-number f (silo-with c (silo-of s)) l (depth s i) =
+      λ l i h. depths-by s s' m f list' (a' .filled) l i h ∙ ap (λ (x : Silo). load-number f x l (depth s i)) silo in
       record {
         p-he-no-smaller = λ i h. rw (at p-he i h, at-load (a .filled) p-he i h) (p-he-less f c (silo-of s) fits least most (depth s i));
         patch-no-smaller = λ i h. rw (at p-p i h, at-load (a .filled) p-p i h) (p-p-less f c (silo-of s) fits least most (depth s i));
         strakes-no-smaller =
             λ k h.
-            let there = strakes-by s s' m f list' (a' .filled) k h ∙ ap (λ (x : Silo). number f x p-he (edge-of s (suc k))) silo in
+            let there = strakes-by s s' m f list' (a' .filled) k h ∙ ap (λ (x : Silo). load-number f x p-he (edge-of s (suc k))) silo in
             rw (there, a .filled .at-strakes k h) (p-he-less f c (silo-of s) fits least most (edge-of s (suc k)));
         filling-same = λ l o i h. at-load (a .filled) l i h ∙ sym (at l i h ∙ number-with f c (silo-of s) o (depth s i));
         p-we-same = λ i h. at-load (a .filled) p-we i h ∙ sym (at p-we i h ∙ p-we-with f c (silo-of s) (depth s i));

@@ -21,7 +21,7 @@ use Rattle.sheet.specs.Refusal.{product-met, refusal-of}
 use Rattle.sheet.specs.Accepted.{Layout}
 use Rattle.sheet.proofs.Parts.{SameParts, product-same, same-parts, SameRules, values-same, refused-alike}
 use Rattle.loads.specs.Load.{Load}
-use Rattle.loads.specs.Load.{FillingLoad, load-depth, number}
+use Rattle.loads.specs.Load.{FillingLoad, load-depth, load-number}
 use Rattle.loads.specs.Load.Load.{p-vf}
 use Rattle.answers.specs.Length.{answers-length}
 use Rattle.answers.specs.Answers.{silo-of, depth, Filled}
@@ -106,5 +106,5 @@ level-sheet f s s' list list' ok ok' a b same brim l o i j h k e =
 
 -- the pressure on floor and hopper is the one that the list has for z = V
 pub foot-listed : (f : FillingNumbers) (s list : List ℕ) → Filled f s list → (i : ℕ) → i < depth-count s → depth s i ≡ V-of s
-    → number f (silo-of s) p-vf (silo-of s .foot) ≡ load-in s list p-vf i
-foot-listed f s list a i h e = sym (at-load a p-vf i h ∙ ap (number f (silo-of s) p-vf) e)
+    → load-number f (silo-of s) p-vf (silo-of s .foot) ≡ load-in s list p-vf i
+foot-listed f s list a i h e = sym (at-load a p-vf i h ∙ ap (load-number f (silo-of s) p-vf) e)

@@ -17,7 +17,7 @@ use Rattle.sheet.proofs.Acceptance.{measured}
 use Rattle.sheet.proofs.Parts.{SameParts, RefusedAlike, loads-alike}
 use Rattle.loads.specs.declared.Silo.{Silo}
 use Rattle.loads.specs.Load.{Load}
-use Rattle.loads.specs.Load.{eight, number, bottom-numbers}
+use Rattle.loads.specs.Load.{eight, load-number, bottom-numbers}
 use Rattle.loads.specs.Load.Load.{listed-depth, p-he}
 use Rattle.answers.specs.Place.{load-place, bottom-place, strake-place}
 use Rattle.answers.specs.Length.{length-due, answers-length}
@@ -51,17 +51,17 @@ module _ (s s' : List ℕ) where
     depth-same : (i : ℕ) → depth s' i ≡ depth s i
     depth-same i = ap (λ (d : List ℕ). getD d i 0) (sym (p .depths))
 
-    numbers-by : (r i : ℕ) → r < 8 → i < depth-count s → getD list (load-place (depth-count s') r i) 0 ≡ number f (silo-of s') (getD eight r listed-depth) (depth s i)
-    numbers-by r i g h = a .at-depths r i g (listed i h) ∙ ap (number f (silo-of s') (getD eight r listed-depth)) (depth-same i)
+    numbers-by : (r i : ℕ) → r < 8 → i < depth-count s → getD list (load-place (depth-count s') r i) 0 ≡ load-number f (silo-of s') (getD eight r listed-depth) (depth s i)
+    numbers-by r i g h = a .at-depths r i g (listed i h) ∙ ap (load-number f (silo-of s') (getD eight r listed-depth)) (depth-same i)
 
-    pub depths-by : (l : Load) (i : ℕ) → i < depth-count s → load-in s' list l i ≡ number f (silo-of s') l (depth s i)
-    depths-by l i h = at-load a l i (listed i h) ∙ ap (number f (silo-of s') l) (depth-same i)
+    pub depths-by : (l : Load) (i : ℕ) → i < depth-count s → load-in s' list l i ≡ load-number f (silo-of s') l (depth s i)
+    depths-by l i h = at-load a l i (listed i h) ∙ ap (load-number f (silo-of s') l) (depth-same i)
 
-    pub strakes-by : (k : ℕ) → k < strake-count s → strake-in s' list k ≡ number f (silo-of s') p-he (edge-of s (suc k))
+    pub strakes-by : (k : ℕ) → k < strake-count s → strake-in s' list k ≡ load-number f (silo-of s') p-he (edge-of s (suc k))
     unfolding edge-of
     strakes-by k h =
         a .at-strakes k (subst (λ (n : ℕ). k < n) (p .strake-counts) h)
-        ∙ ap (λ (d : List ℕ). number f (silo-of s') p-he (sum (take (suc k) d))) (sym (p .strakes))
+        ∙ ap (λ (d : List ℕ). load-number f (silo-of s') p-he (sum (take (suc k) d))) (sym (p .strakes))
 
   -- what fills the answers of the other fills those of s
   pub filled-same : OneSilo s s' → (f : FillingNumbers) (list : List ℕ) → Filled f s' list → Filled f s list
@@ -70,11 +70,11 @@ module _ (s s' : List ℕ) where
       let count = p .depth-counts in
       let silo = sym (o .silos) in
       record {
-        due = a .due ∙ sym (due-same p);
+        sized = a .sized ∙ sym (due-same p);
         at-depths =
             λ r i g h. ap (λ (n : ℕ). getD list (load-place n r i) 0) count
             ∙ numbers-by p f list a r i g h
-            ∙ ap (λ (c : Silo). number f c (getD eight r listed-depth) (depth s i)) silo;
+            ∙ ap (λ (c : Silo). load-number f c (getD eight r listed-depth) (depth s i)) silo;
         at-bottom =
             λ k h. ap (λ (n : ℕ). getD list (bottom-place n k) 0) count
             ∙ a .at-bottom k h
@@ -82,7 +82,7 @@ module _ (s s' : List ℕ) where
         at-strakes =
             λ k h. ap (λ (n : ℕ). getD list (strake-place n k) 0) count
             ∙ strakes-by p f list a k h
-            ∙ ap (λ (c : Silo). number f c p-he (edge-of s (suc k))) silo;
+            ∙ ap (λ (c : Silo). load-number f c p-he (edge-of s (suc k))) silo;
       }
 
   module _ (alike : Alike s s') where

@@ -15,7 +15,7 @@ use Rattle.description.specs.Silo.{strakes-of, strake-count, depth-count, edge-
 use Rattle.description.proofs.Walls.{strakes-length}
 use Rattle.loads.specs.declared.Silo.{Silo}
 use Rattle.loads.specs.Load.{Load}
-use Rattle.loads.specs.Load.{eight, number, bottom-numbers}
+use Rattle.loads.specs.Load.{eight, load-number, bottom-numbers}
 use Rattle.loads.specs.Load.Load.{listed-depth, p-hf, p-wf, p-vf, P-w, p-he, p-we, p-p}
 use Rattle.loads.specs.program.Basis.{depth-numbers}
 use Rattle.answers.specs.Place.{load-place, bottom-place, strake-place}
@@ -42,9 +42,9 @@ by-eight E a b c d e f g h (suc (suc (suc (suc (suc (suc (suc zero))))))) l = h
 by-eight E a b c d e f g h (suc (suc (suc (suc (suc (suc (suc (suc r)))))))) l = absurd (omega arith)
 
 -- each number of a depth in its order
-numbered : (c : Silo) (x r : ℕ) → r < 8 → getD (depth-numbers c x) r 0 ≡ number computed c (getD eight r listed-depth) x
+numbered : (c : Silo) (x r : ℕ) → r < 8 → getD (depth-numbers c x) r 0 ≡ load-number computed c (getD eight r listed-depth) x
 unfolding depth-numbers
-numbered c x = by-eight (λ (r : ℕ). getD (depth-numbers c x) r 0 ≡ number computed c (getD eight r listed-depth) x) refl refl refl refl refl refl refl refl
+numbered c x = by-eight (λ (r : ℕ). getD (depth-numbers c x) r 0 ≡ load-number computed c (getD eight r listed-depth) x) refl refl refl refl refl refl refl refl
 
 ten-of : (b : Bool) (xs ys : List ℕ) → length xs ≡ 10 → length ys ≡ 10 → length (cond b xs ys) ≡ 10
 ten-of true xs ys h g = h
@@ -71,7 +71,7 @@ module _ (s : List ℕ) where
   length-answers = simp length-append (omega (arith, length-depths-part, length-bottom-part, length-strakes-part))
 
   -- number r of the depth i
-  load-at : (r i : ℕ) → r < 8 → i < depth-count s → getD (answers s) (load-place (depth-count s) r i) 0 ≡ number computed c (getD eight r listed-depth) (depth s i)
+  load-at : (r i : ℕ) → r < 8 → i < depth-count s → getD (answers s) (load-place (depth-count s) r i) 0 ≡ load-number computed c (getD eight r listed-depth) (depth s i)
   unfolding answers
   load-at r i l h =
       List·getD-append (depths-part s) _ 0 (8 * i + r) (omega (arith, length-depths-part))
@@ -88,7 +88,7 @@ module _ (s : List ℕ) where
       ∙ List·getD-append (bottom-part s) _ 0 k (omega (arith, length-bottom-part))
 
   -- the strake k
-  strake-at : (k : ℕ) → k < strake-count s → strake-in s (answers s) k ≡ number computed c p-he (edge-of s (suc k))
+  strake-at : (k : ℕ) → k < strake-count s → strake-in s (answers s) k ≡ load-number computed c p-he (edge-of s (suc k))
   unfolding answers edge-of
   strake-at k h =
       let at : 8 * depth-count s + 10 + k ≡ length (depths-part s) + (length (bottom-part s) + k) =
@@ -100,11 +100,11 @@ module _ (s : List ℕ) where
 
   -- the list that the program fills has each number in its place
   pub answers-filled : Filled computed s (answers s)
-  answers-filled = record { due = length-answers; at-depths = load-at; at-bottom = bottom-at; at-strakes = strake-at }
+  answers-filled = record { sized = length-answers; at-depths = load-at; at-bottom = bottom-at; at-strakes = strake-at }
 
 -- a load by its name
 pub at-load : {f : FillingNumbers} {s list : List ℕ} → Filled f s list → (l : Load) (i : ℕ) → i < depth-count s
-    → load-in s list l i ≡ number f (silo-of s) l (depth s i)
+    → load-in s list l i ≡ load-number f (silo-of s) l (depth s i)
 at-load a listed-depth i h = a .at-depths 0 i (omega arith) h
 at-load a p-hf i h = a .at-depths 1 i (omega arith) h
 at-load a p-wf i h = a .at-depths 2 i (omega arith) h
@@ -143,4 +143,4 @@ filled-once f s l l' a b =
     let same =
     every-place s (λ i. getD l i 0 ≡ getD l' i 0) (λ r i g h. a .at-depths r i g h ∙ sym (b .at-depths r i g h)) (λ k h. a .at-bottom k h ∙ sym (b .at-bottom k h))
     (λ k h. a .at-strakes k h ∙ sym (b .at-strakes k h)) in
-    ext-getD 0 l l' (a .due ∙ sym (b .due)) (λ i h. same i (omega (arith, a .due)))
+    ext-getD 0 l l' (a .sized ∙ sym (b .sized)) (λ i h. same i (omega (arith, a .sized)))

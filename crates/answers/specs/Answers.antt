@@ -11,7 +11,7 @@ use Rattle.description.specs.Silo.{section-of, product-of, eccentricities-of, b
 use Rattle.sheet.specs.Refusal.{sheet-rules}
 use Rattle.answers.specs.Length.{length-due}
 use Rattle.loads.specs.declared.Silo.{Silo}
-use Rattle.loads.specs.Load.{eight, number, bottom-numbers}
+use Rattle.loads.specs.Load.{eight, load-number, bottom-numbers}
 use Rattle.loads.specs.Load.Load.{listed-depth, p-he}
 use Rattle.answers.specs.Place.{load-place, bottom-place, strake-place}
 
@@ -41,12 +41,12 @@ strake-in s list k = getD list (strake-place (depth-count s) k) 0
 
 -- the list has the length due, and each number in its place
 pub record Filled (f : FillingNumbers) (s list : List ℕ) : Type 0 where
-  pub due : length list ≡ length-due s
+  pub sized : length list ≡ length-due s
   pub at-depths : (r i : ℕ) → r < 8 → i < depth-count s
-      → getD list (load-place (depth-count s) r i) 0 ≡ number f (silo-of s) (getD eight r listed-depth) (depth s i)
+      → getD list (load-place (depth-count s) r i) 0 ≡ load-number f (silo-of s) (getD eight r listed-depth) (depth s i)
   pub at-bottom : (k : ℕ) → k < 10 → bottom-in s list k ≡ getD (bottom-numbers f (silo-of s)) k 0
   -- p_he at the strake's lower edge
-  pub at-strakes : (k : ℕ) → k < strake-count s → strake-in s list k ≡ number f (silo-of s) p-he (edge-of s (suc k))
+  pub at-strakes : (k : ℕ) → k < strake-count s → strake-in s list k ≡ load-number f (silo-of s) p-he (edge-of s (suc k))
 
 -- the rules of the load call, lent a list of so many numbers: those of the sheet, then 14
 unfoldable pub loads-rules : List ℕ → ℕ → List Rule

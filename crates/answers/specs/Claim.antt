@@ -9,7 +9,7 @@ use Rattle.records.specs.Format.{place}
 use Rattle.description.specs.Silo.{V-of}
 use Rattle.sheet.specs.Refusal.{refusal-of}
 use Rattle.loads.specs.Load.{Load}
-use Rattle.loads.specs.Load.{FillingLoad, load-depth, number}
+use Rattle.loads.specs.Load.{FillingLoad, load-depth, load-number}
 use Rattle.loads.specs.Load.Load.{listed-depth}
 use Rattle.loads.specs.Holds.{Holds, BottomHolds}
 use Rattle.answers.specs.Answers.{silo-of, bottom-in, Filled}
@@ -22,11 +22,11 @@ pub record Claim (f : FillingNumbers) (s list : List ℕ) : Type 0 where
   -- the list has the length due, and each number in its place
   pub filled : Filled f s list
   -- every load keeps its band or allowance at every depth of the wall, at those listed and at the strakes' edges too; and so does the bottom
-  pub holds : (l : Load) (z : ℕ) → z ≤ V-of s → Holds (silo-of s) l z (number f (silo-of s) l z)
+  pub holds : (l : Load) (z : ℕ) → z ≤ V-of s → Holds (silo-of s) l z (load-number f (silo-of s) l z)
   pub bottom : BottomHolds (silo-of s) (bottom-in s list)
   -- no load but z itself is smaller at a greater or an equal depth below the grain's surface
   pub down : (l : Load) → (l ≡ listed-depth → ⊥) → (z z' : ℕ) → z' ≤ V-of s → load-depth (silo-of s) z ≤ load-depth (silo-of s) z'
-      → number f (silo-of s) l z ≤ number f (silo-of s) l z'
+      → load-number f (silo-of s) l z ≤ load-number f (silo-of s) l z'
   -- nor is a filling load at such a depth of any accepted sheet with the same section and product, whatever the headrooms
   pub ordered : (s' : List ℕ) → refusal-of s' ≡ 0 → SameSectionAndProduct s s' → (l : Load) → FillingLoad l → (z z' : ℕ) → z' ≤ V-of s'
-      → load-depth (silo-of s) z ≤ load-depth (silo-of s') z' → number f (silo-of s) l z ≤ number f (silo-of s') l z'
+      → load-depth (silo-of s) z ≤ load-depth (silo-of s') z' → load-number f (silo-of s) l z ≤ load-number f (silo-of s') l z'

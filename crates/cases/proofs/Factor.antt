@@ -14,7 +14,7 @@ use Rattle.janssen.specs.program.Pressure.{step, limit, decay-by, pressure, fil
 use Rattle.discharge.specs.Discharge.{magnifier, magnified-load}
 use Rattle.records.specs.Format.{u16, u32, numbers, place, kind, payload, payload-length, record-count}
 use Rattle.description.specs.Silo.{section-of, product-sent, product-of, factor-read, eccentricities-of, bottom-of, strake-count, strakes-of, depth-count, depths-of, sum, V-of, headroom-of}
-use Rattle.loads.specs.Load.{load-depth, number}
+use Rattle.loads.specs.Load.{load-depth, load-number}
 use Rattle.loads.specs.Load.Load.{p-he}
 use Rattle.answers.specs.Answers.{silo-of, depth}
 use Rattle.answers.specs.Promise.{Promise}
@@ -36,7 +36,7 @@ same-as-155 lent left left' r r' a b =
     acts-as-155 (factor-sheet 0) blank computed-by table lent left left' r r' a (subst (λ (s : List ℕ). Promise computed-by table s lent r' left') (sym written) b)
 
 -- p_he of the second depth, 5,000
-p-he-beside : (number computed (silo-of (factor-sheet 0)) p-he (depth (factor-sheet 0) 1) ≡ 27276) × (number computed (silo-of (factor-sheet 135)) p-he (depth (factor-sheet 135) 1) ≡ 23756)
+p-he-beside : (load-number computed (silo-of (factor-sheet 0)) p-he (depth (factor-sheet 0) 1) ≡ 27276) × (load-number computed (silo-of (factor-sheet 135)) p-he (depth (factor-sheet 135) 1) ≡ 23756)
 unfolding behind-section case-sheet place payload payload-length kind u16 u32 numbers section-of product-sent product-of factor-read eccentricities-of bottom-of strake-count strakes-of depth-count depths-of sum V-of headroom-of record-count load-depth magnifier magnified-load filling-by pressure decay-by limit step P q z0 γR R Ks μ up lower-by between denominator entry-in table side-a side-b d-c
 p-he-beside = (refl, refl)
 

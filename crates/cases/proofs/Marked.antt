@@ -20,7 +20,7 @@ use Rattle.janssen.specs.program.Pressure.{step, limit, decay-by, pressure, fil
 use Rattle.discharge.specs.Discharge.{magnifier, magnified-load, patch-load}
 use Rattle.discharge.specs.program.Magnifier.{horizontal-magnifier, friction-magnifier}
 use Rattle.loads.specs.Load.{Load}
-use Rattle.loads.specs.Load.{load-depth, full-height, C-h, C-w, number}
+use Rattle.loads.specs.Load.{load-depth, full-height, C-h, C-w, load-number}
 use Rattle.loads.specs.Load.Load.{listed-depth, p-hf, p-wf, p-vf, P-w, p-he, p-we, p-p}
 use Rattle.records.specs.Format.{u16, u32, numbers, place, kind, payload, payload-length, allowed, record-rules, records-rules, record-count, layout-rules}
 use Rattle.records.specs.Rules.{_unless_, first-unmet}
@@ -49,13 +49,13 @@ module _ (g : FillingNumbers) (s : List ℕ) (u : OfHeight 7499 s) where
   height : full-height (silo-of s) ≡ 7499
   height = same-height s ∙ u .height
 
-  squat-discharge : product-of s .factor ≡ 140 → (z : ℕ) → number g (silo-of s) p-hf z ≡ 17597 → number g (silo-of s) p-he z ≡ 24633
+  squat-discharge : product-of s .factor ≡ 140 → (z : ℕ) → load-number g (silo-of s) p-hf z ≡ 17597 → load-number g (silo-of s) p-he z ≡ 24633
   unfolding magnified-load magnifier up
   squat-discharge f z e =
       ap₂ (λ (h p : ℕ). magnified-load (horizontal-magnifier (product-of s .factor) h (d-c (section-of s))) p) height e
       ∙ ap₂ (λ (C d : ℕ). magnified-load (horizontal-magnifier C 7499 d) 17597) f (u .width)
 
-  squat-friction-discharge : (z : ℕ) → number g (silo-of s) p-wf z ≡ 7345 → number g (silo-of s) p-we z ≡ 8080
+  squat-friction-discharge : (z : ℕ) → load-number g (silo-of s) p-wf z ≡ 7345 → load-number g (silo-of s) p-we z ≡ 8080
   unfolding magnified-load magnifier up
   squat-friction-discharge z e =
       ap₂ (λ (h p : ℕ). magnified-load (friction-magnifier h (d-c (section-of s))) p) height e
@@ -75,7 +75,7 @@ in-depth : InDepth (Circle 5000) 5000
 unfolding d-c side-a side-b
 in-depth = record { below-ten = omega arith; wall = omega arith }
 
-surface : (l : Load) → number computed case-silo l 0 ≡ 0
+surface : (l : Load) → load-number computed case-silo l 0 ≡ 0
 unfolding load-depth D N magnifier magnified-load patch-load filling-by pressure wall-load-by load loaded-depth z0-scaled decay-by limit step P q z0 γR R Ks μ up lower-by between denominator entry-in table side-a side-b d-c
 surface listed-depth = refl
 surface p-hf = refl
@@ -86,7 +86,7 @@ surface p-he = refl
 surface p-we = refl
 surface p-p = refl
 
-middle : (l : Load) → number computed case-silo l 5000 ≡ middle-number l
+middle : (l : Load) → load-number computed case-silo l 5000 ≡ middle-number l
 unfolding load-depth D N magnifier magnified-load patch-load filling-by pressure wall-load-by load loaded-depth z0-scaled decay-by limit step P q z0 γR R Ks μ up lower-by between denominator entry-in table side-a side-b d-c
 middle listed-depth = refl
 middle p-hf = refl

@@ -18,7 +18,7 @@ use Rattle.records.specs.Format.{two-bytes, four-bytes, record-bytes, layout-ru
 use Rattle.description.specs.Silo.{section-of, product-of, h-of}
 use Rattle.loads.specs.declared.Silo.{Silo}
 use Rattle.loads.specs.Load.{Load}
-use Rattle.loads.specs.Load.{number}
+use Rattle.loads.specs.Load.{load-number}
 use Rattle.loads.specs.Load.Load.{listed-depth, p-hf, p-wf, p-vf, P-w, p-he, p-we, p-p}
 use Rattle.loads.specs.Holds.{Holds}
 use Rattle.sheet.specs.Refusal.{value-rules, refusal-of}
@@ -97,18 +97,18 @@ pub record Marked (f : List ℕ → FillingNumbers) (t : List ℕ) : Type 0 wher
   -- P for p_hf is 31,250
   pub deep-limit : (P horizontal (Circle 5000) (grain-of case-product) ⪯ whole 31250) × (whole 31250 ⪯ P horizontal (Circle 5000) (grain-of case-product))
   -- z = 0 gives 0
-  pub surface : (l : Load) → number (f t) case-silo l 0 ≡ 0
+  pub surface : (l : Load) → load-number (f t) case-silo l 0 ≡ 0
   -- z = 5,000, any number inside its band: p_hf 17,597 or 17,598; p_wf 7,345 or 7,346; p_vf 33,119 or 33,120; P_w 21,541 or 21,542
   pub horizontal-pair : (p : ℕ) → Holds case-silo p-hf 5000 p → (p ≡ 17597) ⊎ (p ≡ 17598)
   pub friction-pair : (p : ℕ) → Holds case-silo p-wf 5000 p → (p ≡ 7345) ⊎ (p ≡ 7346)
   pub vertical-pair : (p : ℕ) → Holds case-silo p-vf 5000 p → (p ≡ 33119) ⊎ (p ≡ 33120)
   pub wall-load-pair : (w : ℕ) → Holds case-silo P-w 5000 w → (w ≡ 21541) ⊎ (w ≡ 21542)
   -- p_hf 17,597 gives p_he 24,636 and p_p 4,928; p_wf 7,345 gives p_we 8,080
-  pub discharge : (g : FillingNumbers) → number g case-silo p-hf 5000 ≡ 17597 → number g case-silo p-he 5000 ≡ 24636
-  pub patch : (g : FillingNumbers) → number g case-silo p-hf 5000 ≡ 17597 → number g case-silo p-p 5000 ≡ 4928
-  pub friction-discharge : (g : FillingNumbers) → number g case-silo p-wf 5000 ≡ 7345 → number g case-silo p-we 5000 ≡ 8080
+  pub discharge : (g : FillingNumbers) → load-number g case-silo p-hf 5000 ≡ 17597 → load-number g case-silo p-he 5000 ≡ 24636
+  pub patch : (g : FillingNumbers) → load-number g case-silo p-hf 5000 ≡ 17597 → load-number g case-silo p-p 5000 ≡ 4928
+  pub friction-discharge : (g : FillingNumbers) → load-number g case-silo p-wf 5000 ≡ 7345 → load-number g case-silo p-we 5000 ≡ 8080
   -- the numbers that the answer list has: of each pair the first
-  pub middle : (l : Load) → number (f t) case-silo l 5000 ≡ middle-number l
+  pub middle : (l : Load) → load-number (f t) case-silo l 5000 ≡ middle-number l
   -- h 7,500 accepted, and 7,499 (document 02, C-11); 49,999 accepted, 50,000 gives 12
   pub h-7500 : HeightGives 7500 0
   pub h-7499 : HeightGives 7499 0
@@ -116,9 +116,9 @@ pub record Marked (f : List ℕ → FillingNumbers) (t : List ℕ) : Type 0 wher
   pub h-50000 : HeightGives 50000 12
   -- at h 7,499, with C0 140: p_hf 17,597 gives p_he 24,633; p_wf 7,345 gives p_we 8,080
   pub squat-discharge : (g : FillingNumbers) (s : List ℕ) → OfHeight 7499 s → product-of s .factor ≡ 140 → (z : ℕ)
-      → number g (silo-of s) p-hf z ≡ 17597 → number g (silo-of s) p-he z ≡ 24633
+      → load-number g (silo-of s) p-hf z ≡ 17597 → load-number g (silo-of s) p-he z ≡ 24633
   pub squat-friction-discharge : (g : FillingNumbers) (s : List ℕ) → OfHeight 7499 s → (z : ℕ)
-      → number g (silo-of s) p-wf z ≡ 7345 → number g (silo-of s) p-we z ≡ 8080
+      → load-number g (silo-of s) p-wf z ≡ 7345 → load-number g (silo-of s) p-we z ≡ 8080
   -- behind the sixth record (document 02, C-13): one byte gives 2, kind 7 gives 3, eight bytes of payload 4, a byte behind the seventh 5
   pub left-over : refusal-of (followed-by (0 ∷ [])) ≡ 2
   pub seventh-kind : refusal-of (followed-by (record-bytes 7 (four-bytes 300))) ≡ 3
@@ -146,8 +146,8 @@ pub record Marked (f : List ℕ → FillingNumbers) (t : List ℕ) : Type 0 wher
   pub factor-155 : (lent left left' : List ℕ) (r r' : ℕ) → Promise f t (factor-sheet 0) lent r left → Promise f t (factor-sheet 155) lent r' left'
       → (r ≡ r') × (left ≡ left')
   -- and no longer as 135: p_hf 17,597 gives p_he 27,276 and p_p 5,456, beside 23,756 and 4,752; the lists left differ
-  pub blank-discharge : (g : FillingNumbers) → number g (silo-of (factor-sheet 0)) p-hf 5000 ≡ 17597
-      → (number g (silo-of (factor-sheet 0)) p-he 5000 ≡ 27276) × (number g (silo-of (factor-sheet 0)) p-p 5000 ≡ 5456)
-  pub discharge-135 : (g : FillingNumbers) → number g (silo-of (factor-sheet 135)) p-hf 5000 ≡ 17597
-      → (number g (silo-of (factor-sheet 135)) p-he 5000 ≡ 23756) × (number g (silo-of (factor-sheet 135)) p-p 5000 ≡ 4752)
+  pub blank-discharge : (g : FillingNumbers) → load-number g (silo-of (factor-sheet 0)) p-hf 5000 ≡ 17597
+      → (load-number g (silo-of (factor-sheet 0)) p-he 5000 ≡ 27276) × (load-number g (silo-of (factor-sheet 0)) p-p 5000 ≡ 5456)
+  pub discharge-135 : (g : FillingNumbers) → load-number g (silo-of (factor-sheet 135)) p-hf 5000 ≡ 17597
+      → (load-number g (silo-of (factor-sheet 135)) p-he 5000 ≡ 23756) × (load-number g (silo-of (factor-sheet 135)) p-p 5000 ≡ 4752)
   pub factor-135 : (lent left left' : List ℕ) → Promise f t (factor-sheet 0) lent 0 left → Promise f t (factor-sheet 135) lent 0 left' → left ≡ left' → ⊥

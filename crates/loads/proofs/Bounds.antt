@@ -24,7 +24,7 @@ use Rattle.hopper.proofs.Least.{found}
 use Rattle.hopper.proofs.Hopper.{B-range, P-n-range, P-t-range}
 use Rattle.loads.specs.declared.Silo.{Silo}
 use Rattle.loads.specs.Load.{Load}
-use Rattle.loads.specs.Load.{load-depth, number, C-h, C-w, quarters, normal-number, friction-number, bottom-numbers}
+use Rattle.loads.specs.Load.{load-depth, load-number, C-h, C-w, quarters, normal-number, friction-number, bottom-numbers}
 use Rattle.loads.specs.Load.Load.{listed-depth, p-hf, p-wf, p-vf, P-w, p-he, p-we, p-p}
 use Rattle.loads.specs.Bound.{bound, bottom-bound}
 use Rattle.loads.specs.program.Basis.{Reached, Fits}
@@ -67,7 +67,7 @@ module _ (c : Silo) (fits : Fits c) where
   abbrev filled : Kind → ℕ → ℕ
   filled k depth = filling k (c .section) (grain-of (c .product)) (load-depth c depth)
 
-  p-he-most : (depth : ℕ) → number computed c p-he depth ≤ 8333334
+  p-he-most : (depth : ℕ) → load-number computed c p-he depth ≤ 8333334
   p-he-most depth =
       omega (
         arith,
@@ -76,7 +76,7 @@ module _ (c : Silo) (fits : Fits c) where
       )
 
   -- every load of a depth
-  pub within-bound : (l : Load) (depth : ℕ) → number computed c l depth ≤ bound l depth
+  pub within-bound : (l : Load) (depth : ℕ) → load-number computed c l depth ≤ bound l depth
   unfolding load-depth
   within-bound listed-depth depth = omega arith
   within-bound p-hf depth = filling-most (c .section) (grain-of (c .product)) (fits .range) horizontal (load-depth c depth)
@@ -93,13 +93,13 @@ module _ (c : Silo) (fits : Fits c) where
   within-bound p-p depth =
       omega (
         arith,
-        patch-most (c .eccentricity) (d-c (c .section)) (number computed c p-he depth) (number computed c p-he depth) (dc-positive c fits)
+        patch-most (c .eccentricity) (d-c (c .section)) (load-number computed c p-he depth) (load-number computed c p-he depth) (dc-positive c fits)
             (fits .eccentricity-most) (omega arith),
         p-he-most depth,
       )
 
   -- p_p down to a load depth of 74,000 mm, whatever the width: p_hf is at most 1.15·Ks·γ·z, less than 2 above
-  pub patch-small : (depth : ℕ) → Reached c depth → load-depth c depth ≤ 74000 → number computed c p-p depth < 2 ^ 21
+  pub patch-small : (depth : ℕ) → Reached c depth → load-depth c depth ≤ 74000 → load-number computed c p-p depth < 2 ^ 21
   patch-small depth r h =
       let z : ℕ = load-depth c depth in
       let i = fits .range in
@@ -108,18 +108,18 @@ module _ (c : Silo) (fits : Fits c) where
       let p-he-small = magnified-most (C-h c) (C-h-moderate c fits .proper) (C-h-moderate c fits .most) (filled horizontal depth) in
       omega (
         arith,
-        patch-most (c .eccentricity) (d-c (c .section)) (number computed c p-he depth) 2042402 (dc-positive c fits) (fits .eccentricity-most)
+        patch-most (c .eccentricity) (d-c (c .section)) (load-number computed c p-he depth) 2042402 (dc-positive c fits) (fits .eccentricity-most)
             (omega (arith, p-he-small, p-hf-most)),
       )
 
-  vertical-small : number computed c p-vf (c .foot) < 2 ^ 25
+  vertical-small : load-number computed c p-vf (c .foot) < 2 ^ 25
   vertical-small = omega (arith, within-bound p-vf (c .foot))
 
   normal-most : (k : ℕ) → 0 < c .run → k ≤ 4 → normal-number computed c k ≤ 2 ^ 26
   normal-most k hr hk =
       let μ = c .product .friction in
       let b = B (c .section) (grain-of (c .product)) (c .height) (c .run) in
-      P-n-range (c .height) (c .run) k (n3 μ b) (number computed c p-vf (c .foot)) hr hk
+      P-n-range (c .height) (c .run) k (n3 μ b) (load-number computed c p-vf (c .foot)) hr hk
       (omega (arith, n3-most μ b, B-range (c .section) (grain-of (c .product)) (c .height) (c .run) (fits .range) hr)) vertical-small
 
   friction-most : (k : ℕ) → 0 < c .run → k ≤ 4 → friction-number computed c k ≤ 2 ^ 27
@@ -127,7 +127,7 @@ module _ (c : Silo) (fits : Fits c) where
 
   flat-most : c .run ≡ 0 → (k : ℕ) → k < 10 → getD (bottom-numbers computed c) k 0 ≤ bottom-bound
   flat-most e zero h =
-      rw (bottom-flat computed c e) (omega (arith, magnified-most C-b (omega arith) (omega arith) (number computed c p-vf (c .foot)), vertical-small))
+      rw (bottom-flat computed c e) (omega (arith, magnified-most C-b (omega arith) (omega arith) (load-number computed c p-vf (c .foot)), vertical-small))
   flat-most e (suc k) h = rw (bottom-flat computed c e) (omega (arith, getD-replicate {A = ℕ} 9 k 0 0 (le-of-suc-le-suc h)))
 
   hopper-most : 0 < c .run → (k : ℕ) → k < 10 → getD (bottom-numbers computed c) k 0 ≤ bottom-bound

@@ -29,14 +29,14 @@ use Rattle.hopper.proofs.Hopper.{P-n-allowance, P-t-allowance}
 use Rattle.loads.specs.declared.Silo.{Silo}
 use Rattle.loads.specs.declared.Basis.{Basis}
 use Rattle.loads.specs.Load.{Load}
-use Rattle.loads.specs.Load.{FillingLoad, load-depth, pressure-at, full-height, C-h, C-w, number, quarters, normal-number, friction-number, bottom-numbers}
+use Rattle.loads.specs.Load.{FillingLoad, load-depth, pressure-at, full-height, C-h, C-w, load-number, quarters, normal-number, friction-number, bottom-numbers}
 use Rattle.loads.specs.Load.Load.{listed-depth, p-hf, p-wf, p-vf, P-w, p-he, p-we, p-p}
 use Rattle.loads.specs.Load.FillingLoad.{of-p-hf, of-p-wf, of-p-vf, of-P-w}
 use Rattle.loads.specs.Holds.{InBand, Holds, BottomHolds}
 use Rattle.loads.specs.program.Basis.{Reached, Fits, Sound}
 
 -- the two shapes of the bottom
-pub bottom-flat : (f : FillingNumbers) (c : Silo) → c .run ≡ 0 → bottom-numbers f c ≡ magnified-load C-b (number f c p-vf (c .foot)) ∷ replicate 9 0
+pub bottom-flat : (f : FillingNumbers) (c : Silo) → c .run ≡ 0 → bottom-numbers f c ≡ magnified-load C-b (load-number f c p-vf (c .foot)) ∷ replicate 9 0
 unfolding bottom-numbers
 bottom-flat f c e = simp (eq-eqb (c .run) 0 e)
 
@@ -69,7 +69,7 @@ module _ (c c' : Silo) (same-section : c .section ≡ c' .section) (same-product
   load-more : (u v : ℕ) → InDepth (c' .section) v → u ≤ v → wall-load (c .section) (grain-of (c .product)) u ≤ wall-load (c' .section) (grain-of (c' .product)) v
   load-more u v d h = rw (same-section, same-product) (wall-load-rises (c' .section) (grain-of (c' .product)) u v (fits .range) d h)
 
-  pub filling-more : {l : Load} → FillingLoad l → (x y : ℕ) → Reached c' y → load-depth c x ≤ load-depth c' y → number computed c l x ≤ number computed c' l y
+  pub filling-more : {l : Load} → FillingLoad l → (x y : ℕ) → Reached c' y → load-depth c x ≤ load-depth c' y → load-number computed c l x ≤ load-number computed c' l y
   filling-more of-p-hf x y d h = pressure-more horizontal _ _ d h
   filling-more of-p-wf x y d h = pressure-more wall-friction _ _ d h
   filling-more of-p-vf x y d h = pressure-more vertical _ _ d h
@@ -108,7 +108,7 @@ module _ (c : Silo) (fits : Fits c) where
   C-w-most = omega (arith, C-w-between .1 .order)
 
   -- every load's number has what is claimed of it
-  pub holds : (l : Load) (depth : ℕ) → Reached c depth → Holds c l depth (number computed c l depth)
+  pub holds : (l : Load) (depth : ℕ) → Reached c depth → Holds c l depth (load-number computed c l depth)
   holds listed-depth depth d = refl
   holds p-hf depth d = band-at horizontal depth d
   holds p-wf depth d = band-at wall-friction depth d
@@ -122,10 +122,10 @@ module _ (c : Silo) (fits : Fits c) where
 
   -- no load falls with the depth below the surface, nor with that below the brim, which z itself is
   module _ (depth depth' : ℕ) (d : Reached c depth') where
-    filling-down : {l : Load} → FillingLoad l → load-depth c depth ≤ load-depth c depth' → number computed c l depth ≤ number computed c l depth'
+    filling-down : {l : Load} → FillingLoad l → load-depth c depth ≤ load-depth c depth' → load-number computed c l depth ≤ load-number computed c l depth'
     filling-down o h = filling-more c c refl refl fits o depth depth' d h
 
-    rises-by : (l : Load) → load-depth c depth ≤ load-depth c depth' → (l ≡ listed-depth → depth ≤ depth') → number computed c l depth ≤ number computed c l depth'
+    rises-by : (l : Load) → load-depth c depth ≤ load-depth c depth' → (l ≡ listed-depth → depth ≤ depth') → load-number computed c l depth ≤ load-number computed c l depth'
     rises-by listed-depth h g = g refl
     rises-by p-hf h g = filling-down of-p-hf h
     rises-by p-wf h g = filling-down of-p-wf h
@@ -137,16 +137,16 @@ module _ (c : Silo) (fits : Fits c) where
         patch-load-mono (c .eccentricity) (d-c (c .section)) dc-positive
         (magnified-load-mono (⪯-refl (C-h c) (C-h-moderate .proper)) (filling-down of-p-hf h))
 
-    pub rises-below : (l : Load) → (l ≡ listed-depth → ⊥) → load-depth c depth ≤ load-depth c depth' → number computed c l depth ≤ number computed c l depth'
+    pub rises-below : (l : Load) → (l ≡ listed-depth → ⊥) → load-depth c depth ≤ load-depth c depth' → load-number computed c l depth ≤ load-number computed c l depth'
     rises-below l n h = rises-by l h (λ e. absurd (n e))
 
-    pub rises : (l : Load) → depth ≤ depth' → number computed c l depth ≤ number computed c l depth'
+    pub rises : (l : Load) → depth ≤ depth' → load-number computed c l depth ≤ load-number computed c l depth'
     rises l h = rises-by l (load-depth-rises c depth depth' h) (λ e. h)
 
   -- and the bottom's, wherever they stand
   pub bottom-holds : (at : ℕ → ℕ) → ((k : ℕ) → k < 10 → at k ≡ getD (bottom-numbers computed c) k 0) → BottomHolds c at
   bottom-holds at is =
-      let x : ℕ = number computed c p-vf (c .foot) in
+      let x : ℕ = load-number computed c p-vf (c .foot) in
       let fill = filled-at vertical (c .foot) (fits .foot-reached) in
       let quarter = at-quarter (normal-number computed c) (friction-number computed c) in
       record {

@@ -13,7 +13,7 @@ use Rattle.discharge.proofs.Magnifiers.{horizontal-magnifier-mono}
 use Rattle.discharge.proofs.Discharge.{magnified-load-mono, patch-load-mono}
 use Rattle.loads.specs.declared.Silo.{Silo}
 use Rattle.loads.specs.Load.{Load}
-use Rattle.loads.specs.Load.{FillingLoad, load-depth, pressure-at, full-height, C-h, number, bottom-numbers}
+use Rattle.loads.specs.Load.{FillingLoad, load-depth, pressure-at, full-height, C-h, load-number, bottom-numbers}
 use Rattle.loads.specs.Load.Load.{p-he, p-we, p-p}
 use Rattle.loads.specs.Load.FillingLoad.{of-p-hf, of-p-wf, of-p-vf, of-P-w}
 use Rattle.loads.specs.program.Basis.{Fits}
@@ -37,14 +37,14 @@ silo-with n c =
     }
 
 module _ (f : FillingNumbers) (n : ℕ) (c : Silo) where
-  pub number-with : {l : Load} → FillingLoad l → (depth : ℕ) → number f (silo-with n c) l depth ≡ number f c l depth
+  pub number-with : {l : Load} → FillingLoad l → (depth : ℕ) → load-number f (silo-with n c) l depth ≡ load-number f c l depth
   unfolding load-depth
   number-with of-p-hf depth = refl
   number-with of-p-wf depth = refl
   number-with of-p-vf depth = refl
   number-with of-P-w depth = refl
 
-  pub p-we-with : (depth : ℕ) → number f (silo-with n c) p-we depth ≡ number f c p-we depth
+  pub p-we-with : (depth : ℕ) → load-number f (silo-with n c) p-we depth ≡ load-number f c p-we depth
   unfolding load-depth
   p-we-with depth = refl
 
@@ -58,10 +58,10 @@ module _ (f : FillingNumbers) (n : ℕ) (c : Silo) where
     unfolding load-depth
     C-h-less = horizontal-magnifier-mono (full-height c) (d-c (c .section)) (dc-positive c fits) least most
 
-    pub p-he-less : (depth : ℕ) → number f (silo-with n c) p-he depth ≤ number f c p-he depth
+    pub p-he-less : (depth : ℕ) → load-number f (silo-with n c) p-he depth ≤ load-number f c p-he depth
     unfolding load-depth
     p-he-less depth = magnified-load-mono C-h-less (le-refl (pressure-at f c horizontal depth))
 
-    pub p-p-less : (depth : ℕ) → number f (silo-with n c) p-p depth ≤ number f c p-p depth
+    pub p-p-less : (depth : ℕ) → load-number f (silo-with n c) p-p depth ≤ load-number f c p-p depth
     unfolding load-depth
     p-p-less depth = patch-load-mono (c .eccentricity) (d-c (c .section)) (dc-positive c fits) (p-he-less depth)

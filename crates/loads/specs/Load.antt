@@ -50,20 +50,20 @@ abbrev pub C-w : Silo → Fraction
 C-w c = magnifier 110 20 (full-height c) (d-c (c .section))
 
 -- the number of a load at a depth below the brim
-abbrev pub number : FillingNumbers → Silo → Load → ℕ → ℕ
-number f c listed-depth depth = depth
-number f c p-hf depth = pressure-at f c horizontal depth
-number f c p-wf depth = pressure-at f c wall-friction depth
-number f c p-vf depth = pressure-at f c vertical depth
-number f c P-w depth = f .wall-load-at (c .section) (grain-of (c .product)) (load-depth c depth)
-number f c p-he depth = magnified-load (C-h c) (pressure-at f c horizontal depth)
-number f c p-we depth = magnified-load (C-w c) (pressure-at f c wall-friction depth)
-number f c p-p depth = patch-load (c .eccentricity) (d-c (c .section)) (magnified-load (C-h c) (pressure-at f c horizontal depth))
+abbrev pub load-number : FillingNumbers → Silo → Load → ℕ → ℕ
+load-number f c listed-depth depth = depth
+load-number f c p-hf depth = pressure-at f c horizontal depth
+load-number f c p-wf depth = pressure-at f c wall-friction depth
+load-number f c p-vf depth = pressure-at f c vertical depth
+load-number f c P-w depth = f .wall-load-at (c .section) (grain-of (c .product)) (load-depth c depth)
+load-number f c p-he depth = magnified-load (C-h c) (pressure-at f c horizontal depth)
+load-number f c p-we depth = magnified-load (C-w c) (pressure-at f c wall-friction depth)
+load-number f c p-p depth = patch-load (c .eccentricity) (d-c (c .section)) (magnified-load (C-h c) (pressure-at f c horizontal depth))
 
 -- P_n and P_t at k quarters of the hopper's slope, from p_vf(V)
 abbrev pub normal-number : FillingNumbers → Silo → ℕ → ℕ
 normal-number f c k =
-    P-n (c .height) (c .run) k (n3 (c .product .friction) (B (c .section) (grain-of (c .product)) (c .height) (c .run))) (number f c p-vf (c .foot))
+    P-n (c .height) (c .run) k (n3 (c .product .friction) (B (c .section) (grain-of (c .product)) (c .height) (c .run))) (load-number f c p-vf (c .foot))
 
 abbrev pub friction-number : FillingNumbers → Silo → ℕ → ℕ
 friction-number f c k = P-t (c .product .friction) (normal-number f c k)
@@ -75,5 +75,5 @@ quarters = 0 ∷ 1 ∷ 2 ∷ 3 ∷ 4 ∷ []
 -- the ten numbers of the bottom: floor and nine zeros where there is no run, else P_n for k = 0..4 and P_t for k = 0..4
 unfoldable pub bottom-numbers : FillingNumbers → Silo → List ℕ
 bottom-numbers f c =
-    cond (eqb (c .run) 0) (magnified-load C-b (number f c p-vf (c .foot)) ∷ replicate 9 0)
+    cond (eqb (c .run) 0) (magnified-load C-b (load-number f c p-vf (c .foot)) ∷ replicate 9 0)
     (map (normal-number f c) quarters ++ map (friction-number f c) quarters)

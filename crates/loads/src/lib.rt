@@ -4,7 +4,7 @@ ghost use mathlib.Core.List.{_++_, map};
 ghost use Prim.Native.Nat.{_^_, _<_, _≤_};
 ghost use Rattle.hopper.specs.Hopper.{P-n, P-t};
 ghost use Rattle.exponential.specs.program.Table.{table};
-ghost use Rattle.loads.specs.Load.{load-depth, number, quarters, normal-number, friction-number, bottom-numbers};
+ghost use Rattle.loads.specs.Load.{load-depth, load-number, quarters, normal-number, friction-number, bottom-numbers};
 ghost use Rattle.loads.specs.Load.Load.{p-vf, p-he, p-p};
 ghost use Rattle.loads.specs.program.Basis.{basis-for, Reached, Fits, Sound, depth-numbers};
 ghost use Rattle.janssen.specs.program.Pressure.{computed};
@@ -127,7 +127,7 @@ fn quarter(
 
 // P_n and then P_t at the five quarters, from p_vf at the wall's foot.
 fn hopper_numbers(silo: Silo, vertical: Pascals) -> [u32; 10]
-    requires { ⌜ Fits silo × (0 < silo .run) × (vertical .0 ≡ number computed silo p-vf (silo .foot)) × (vertical .0 < 2 ^ 25) ⌝ }
+    requires { ⌜ Fits silo × (0 < silo .run) × (vertical .0 ≡ load-number computed silo p-vf (silo .foot)) × (vertical .0 < 2 ^ 25) ⌝ }
     ensures { λ r. ⌜ r ≡ map (normal-number computed silo) quarters ++ map (friction-number computed silo) quarters ⌝ }
 {
     let section = silo.section;
@@ -176,7 +176,7 @@ pub fn bottom_numbers(entries: &[u64; 3393], basis: Basis) -> [u32; 10]
 // p_he z mm below the brim; a strake's number is the one at its lower edge.
 pub fn horizontal_discharge(entries: &[u64; 3393], basis: Basis, z: u64) -> Pascals
     requires { ⌜ (now entries ≡ table) × Sound basis × Reached (basis .silo) z ⌝ }
-    ensures { λ r. ⌜ r .0 ≡ number computed (basis .silo) p-he z ⌝ }
+    ensures { λ r. ⌜ r .0 ≡ load-number computed (basis .silo) p-he z ⌝ }
 {
     let prepared = basis.prepared;
     let curve = prepared.horizontal;
@@ -190,7 +190,7 @@ pub fn horizontal_discharge(entries: &[u64; 3393], basis: Basis, z: u64) -> Pasc
 // p_p z mm below the brim.
 pub fn patch_load(entries: &[u64; 3393], basis: Basis, z: u64) -> Pascals
     requires { ⌜ (now entries ≡ table) × Sound basis × Reached (basis .silo) z ⌝ }
-    ensures { λ r. ⌜ r .0 ≡ number computed (basis .silo) p-p z ⌝ }
+    ensures { λ r. ⌜ r .0 ≡ load-number computed (basis .silo) p-p z ⌝ }
 {
     let prepared = basis.prepared;
     let horizontal = prepared.horizontal;

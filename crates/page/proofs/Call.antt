@@ -94,7 +94,7 @@ module _ (s lent : List ℕ) where
             e ∙ ap (sets lent 0) (page-is s h)
             ∙ sets-eq (page computed s) lent 0 (omega (arith, long, n))
             ∙ ap (λ (k : ℕ). page computed s ++ drop k lent) long;
-        due = page-length-is s h;
+        sized = page-length-is s h;
         demand = (answers s, claim s (answers s) h (answers-filled s));
       } in
       (tabulated, fills-done (page-rules s (length lent)) (Written computed s lent) lent left met done)

@@ -10,7 +10,7 @@ use Rattle.text.specs.program.Mark.{number-field}
 use Rattle.janssen.specs.Numbers.{FillingNumbers}
 use Rattle.description.specs.Silo.{strake-count, depth-count, edge-of}
 use Rattle.loads.specs.Load.{Load}
-use Rattle.loads.specs.Load.{eight, number, bottom-numbers}
+use Rattle.loads.specs.Load.{eight, load-number, bottom-numbers}
 use Rattle.loads.specs.Load.Load.{p-he}
 use Rattle.answers.specs.Each.{each}
 use Rattle.answers.specs.Length.{length-due}
@@ -44,7 +44,7 @@ module _ (f : FillingNumbers) (s list : List ℕ) (fill : Filled f s list) where
   bottom-named = each-same _ _ 0 10 (λ k a h. text-line (fill .at-bottom k (omega arith)))
 
   strakes-named : each (λ (k : ℕ). at-rest list (8 * depth-count s) (10 + k)) 0 (strake-count s)
-      ≡ each (λ (k : ℕ). number-line (number f (silo-of s) p-he (edge-of s (suc k)))) 0 (strake-count s)
+      ≡ each (λ (k : ℕ). number-line (load-number f (silo-of s) p-he (edge-of s (suc k)))) 0 (strake-count s)
   strakes-named =
       each-same _ _ 0 (strake-count s)
       (λ k a h.
@@ -53,10 +53,10 @@ module _ (f : FillingNumbers) (s list : List ℕ) (fill : Filled f s list) where
 
   rest-named : rest list (8 * depth-count s)
       ≡ each (λ (k : ℕ). number-line (getD (bottom-numbers f (silo-of s)) k 0)) 0 10
-      ++ each (λ (k : ℕ). number-line (number f (silo-of s) p-he (edge-of s (suc k)))) 0 (strake-count s)
+      ++ each (λ (k : ℕ). number-line (load-number f (silo-of s) p-he (edge-of s (suc k)))) 0 (strake-count s)
   unfolding length-due
   rest-named =
-      let n : length list - 8 * depth-count s ≡ 10 + strake-count s = omega (arith, fill .due) in
+      let n : length list - 8 * depth-count s ≡ 10 + strake-count s = omega (arith, fill .sized) in
       ap (each (at-rest list (8 * depth-count s)) 0) n
       ∙ each-split (at-rest list (8 * depth-count s)) 10 (strake-count s)
       ∙ ap₂ _++_ bottom-named strakes-named

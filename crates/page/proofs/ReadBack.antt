@@ -77,7 +77,7 @@ module _ (s list behind : List ℕ) (h : refusal-of s ≡ 0) (fill : Filled comp
 
   rest-count : length list - 8 * n ≡ 10 + strake-count s
   unfolding length-due
-  rest-count = omega (arith, fill .due)
+  rest-count = omega (arith, fill .sized)
 
   text-length : length (page-text list n) ≡ 73 * (1 + n) + 10 * (10 + strake-count s)
   text-length = page-text-length list few n ∙ ap (λ (m : ℕ). 73 * (1 + n) + 10 * m) rest-count

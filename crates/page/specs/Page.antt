@@ -10,7 +10,7 @@ use Rattle.description.specs.Silo.{strake-count, depth-count, edge-of}
 use Rattle.sheet.specs.Refusal.{sheet-rules, length-refusal}
 use Rattle.loads.specs.declared.Silo.{Silo}
 use Rattle.loads.specs.Load.{Load}
-use Rattle.loads.specs.Load.{eight, number, bottom-numbers}
+use Rattle.loads.specs.Load.{eight, load-number, bottom-numbers}
 use Rattle.loads.specs.Load.Load.{listed-depth, p-hf, p-wf, p-vf, P-w, p-he, p-we, p-p}
 use Rattle.answers.specs.Each.{each}
 use Rattle.answers.specs.declared.length.Length.{Length}
@@ -38,7 +38,7 @@ heading = line (map name eight)
 
 -- the loads of a depth
 abbrev pub depth-line : FillingNumbers → Silo → ℕ → List ℕ
-depth-line f c z = line (map (λ l. decimal (number f c l z)) eight)
+depth-line f c z = line (map (λ l. decimal (load-number f c l z)) eight)
 
 -- one number
 abbrev pub number-line : ℕ → List ℕ
@@ -50,7 +50,7 @@ page f s =
     heading
     ++ (each (λ i. depth-line f (silo-of s) (depth s i)) 0 (depth-count s)
     ++ (each (λ k. number-line (getD (bottom-numbers f (silo-of s)) k 0)) 0 10
-    ++ each (λ k. number-line (number f (silo-of s) p-he (edge-of s (suc k)))) 0 (strake-count s)))
+    ++ each (λ k. number-line (load-number f (silo-of s) p-he (edge-of s (suc k)))) 0 (strake-count s)))
 
 -- its length: 72 characters and a line feed for the heading and each depth, 9 and one for each number of bottom and strakes
 abbrev pub page-size : ℕ → ℕ → ℕ

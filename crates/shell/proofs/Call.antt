@@ -26,7 +26,7 @@ use Rattle.sheet.specs.Refusal.{sheet-rules-at, refusal-of}
 use Rattle.sheet.proofs.Chains.{accepted-at, given-met, rules-numbered, call-never-13}
 use Rattle.sheet.proofs.Acceptance.{accepted}
 use Rattle.loads.specs.declared.Basis.{Basis}
-use Rattle.loads.specs.Load.{number}
+use Rattle.loads.specs.Load.{load-number}
 use Rattle.loads.specs.Load.Load.{p-p}
 use Rattle.loads.specs.program.Basis.{basis-for, Reached, Sound}
 use Rattle.loads.proofs.LoadLaws.{holds}
@@ -34,7 +34,7 @@ use Rattle.answers.specs.Answers.{silo-of}
 use Rattle.answers.specs.program.Fill.{silo-in, basis-of}
 use Rattle.answers.proofs.Demand.{silo-fits, reached}
 use Rattle.answers.proofs.Whole.{basis-described, basis-sound}
-use Rattle.shell.specs.Shell.{folded, outward, size, p-ps, Round, RoundOf, is-circle, shell-rules}
+use Rattle.shell.specs.Shell.{folded, outward, size, p-ps, ReplyList, ReplyListOf, is-circle, shell-rules}
 use Rattle.shell.specs.program.Fill.{patch-at}
 use Rattle.shell.specs.Holds.{ShellClaim}
 use Rattle.shell.specs.Promise.{ShellPromise}
@@ -52,9 +52,9 @@ module _ (s : List ℕ) (d : Described) (z : ℕ) (h : refusal-of s ≡ 0) (e : 
   patch-asks =
       subst (λ (x : Basis). Sound x × Reached (x .silo) z) (sym of-sheet) (basis-sound s h, reached s (accepted s h .measured) z under)
 
-  module _ (p : ℕ) (of : p ≡ number computed (b .silo) p-p z) where
+  module _ (p : ℕ) (of : p ≡ load-number computed (b .silo) p-p z) where
     patch-of-sheet : p ≡ patch-at computed s z
-    patch-of-sheet = of ∙ ap (λ (x : Basis). number computed (x .silo) p-p z) of-sheet
+    patch-of-sheet = of ∙ ap (λ (x : Basis). load-number computed (x .silo) p-p z) of-sheet
 
     width-of-sheet : b .dc ≡ d-c (section-of s)
     width-of-sheet = ap (λ (x : Basis). x .dc) of-sheet
@@ -62,18 +62,18 @@ module _ (s : List ℕ) (d : Described) (z : ℕ) (h : refusal-of s ≡ 0) (e : 
     pub round-asks : (b .dc ≤ 50000) × (p < 2 ^ 21)
     round-asks = (omega (arith, width-of-sheet, width-most s z h under), omega (arith, patch-of-sheet, patch-fits s z h under))
 
-    pub round-of-sheet : (list : List ℤ) → Round entry (b .dc) p list → RoundOf computed entry s z list
+    pub round-of-sheet : (list : List ℤ) → ReplyList entry (b .dc) p list → ReplyListOf computed entry s z list
     round-of-sheet list r =
-        subst (λ (n : ℕ). Round entry n (patch-at computed s z) list) width-of-sheet
-        (subst (λ (n : ℕ). Round entry (b .dc) n list) patch-of-sheet r)
+        subst (λ (n : ℕ). ReplyList entry n (patch-at computed s z) list) width-of-sheet
+        (subst (λ (n : ℕ). ReplyList entry (b .dc) n list) patch-of-sheet r)
 
 -- a list's sizes are those of p_p
-sizes-in : (d p : ℕ) (list : List ℤ) → Round entry d p list → (θ : ℕ) → θ < 360 → natAbs (getD list θ (pos 0)) ≡ size entry p (folded θ)
+sizes-in : (d p : ℕ) (list : List ℤ) → ReplyList entry d p list → (θ : ℕ) → θ < 360 → natAbs (getD list θ (pos 0)) ≡ size entry p (folded θ)
 unfolding p-ps
 sizes-in d p list r θ g = ap natAbs (r .pressures θ g) ∙ signed-size (outward θ) (size entry p (folded θ))
 
 -- with a greater p_p, no size and no force is smaller
-lists-rise : (d p p' : ℕ) (list list' : List ℤ) → Round entry d p list → Round entry d p' list' → p ≤ p' → (i : ℕ) → i < 361
+lists-rise : (d p p' : ℕ) (list list' : List ℤ) → ReplyList entry d p list → ReplyList entry d p' list' → p ≤ p' → (i : ℕ) → i < 361
     → natAbs (getD list i (pos 0)) ≤ natAbs (getD list' i (pos 0))
 lists-rise d p p' list list' r r' h i l = go (decLt i 360)
   where
@@ -84,7 +84,7 @@ lists-rise d p p' list list' r r' h i l = go (decLt i 360)
         subst (λ (k : ℕ). natAbs (getD list k (pos 0)) ≤ natAbs (getD list' k (pos 0))) e (rw (r .force, r' .force) (force-rises d p p' h))
 
 -- what holds of the list of an accepted sheet and a depth of its wall
-pub shell-claim : (s : List ℕ) (z : ℕ) (list : List ℤ) → refusal-of s ≡ 0 → z ≤ V-of s → RoundOf computed entry s z list → ShellClaim computed entry s z list
+pub shell-claim : (s : List ℕ) (z : ℕ) (list : List ℤ) → refusal-of s ≡ 0 → z ≤ V-of s → ReplyListOf computed entry s z list → ShellClaim computed entry s z list
 unfolding p-ps
 shell-claim s z list h under r =
     let p = patch-at computed s z in
@@ -143,7 +143,7 @@ module _ (s : List ℕ) (z : ℕ) (lent : List ℤ) where
       unfolding first-unmet
       other-length n = refused-with 14 (sym (own-of-shell s z (length lent) h ∙ simp (c, ne-eqb (length lent) 361 n))) (λ o. omega arith)
 
-      pub filled : (left : List ℤ) → length lent ≡ 361 → RoundOf computed entry s z left → ShellPromise computed-by table entry s z lent 0 left
+      pub filled : (left : List ℤ) → length lent ≡ 361 → ReplyListOf computed entry s z left → ShellPromise computed-by table entry s z lent 0 left
       unfolding first-unmet
       filled left n r =
           let a = accepted-at s z h in

@@ -22,7 +22,7 @@ use Rattle.description.specs.Silo.{depth-count, V-of}
 use Rattle.sheet.specs.Refusal.{sheet-rules-at}
 use Rattle.sheet.proofs.Chains.{accepted-at, rules-numbered}
 use Rattle.loads.specs.declared.Silo.{Silo}
-use Rattle.loads.specs.Load.{number}
+use Rattle.loads.specs.Load.{load-number}
 use Rattle.loads.specs.Load.Load.{p-p}
 use Rattle.answers.specs.Answers.{silo-of, depth, Filled}
 use Rattle.answers.specs.Order.{load-in}
@@ -31,7 +31,7 @@ use Rattle.answers.specs.Factor.{with-factor, Blank}
 use Rattle.answers.proofs.OneSilo.{Alike, accepted-alike}
 use Rattle.answers.proofs.Headroom.{level, level-alike}
 use Rattle.answers.proofs.Factor.{blank-alike}
-use Rattle.shell.specs.Shell.{apart, size, Round, RoundOf, is-circle, shell-rules}
+use Rattle.shell.specs.Shell.{apart, size, ReplyList, ReplyListOf, is-circle, shell-rules}
 use Rattle.shell.specs.Promise.{ShellPromise}
 use Rattle.shell.proofs.Quadrants.{near}
 use Rattle.shell.proofs.Call.{shell-accepted}
@@ -44,25 +44,25 @@ size-whole {c} cosines p =
     up-unique (p * c 0) 1000000000 p (omega arith) (omega (arith, ap (λ (x : ℕ). p * x) e)) (omega (arith, ap (λ (x : ℕ). p * x) e))
 
 -- p_p of the given depth is the one that the answer list has for it
-pub as-answered : (f : FillingNumbers) (c : ℕ → ℕ) → CosineTable c → (s answers : List ℕ) (z : ℕ) (list : List ℤ) → Filled f s answers → RoundOf f c s z list
+pub as-answered : (f : FillingNumbers) (c : ℕ → ℕ) → CosineTable c → (s answers : List ℕ) (z : ℕ) (list : List ℤ) → Filled f s answers → ReplyListOf f c s z list
     → (i : ℕ) → i < depth-count s → depth s i ≡ z → getD list 0 (pos 0) ≡ pos (load-in s answers p-p i)
 unfolding apart
 as-answered f c cosines s answers z list a r i h e =
-    let p = number f (silo-of s) p-p z in
+    let p = load-number f (silo-of s) p-p z in
     r .pressures 0 (omega arith)
     ∙ near c p 0 0 refl (omega arith)
-    ∙ ap pos (size-whole cosines p ∙ ap (number f (silo-of s) p-p) (sym e) ∙ sym (at-load a p-p i h))
+    ∙ ap pos (size-whole cosines p ∙ ap (load-number f (silo-of s) p-p) (sym e) ∙ sym (at-load a p-p i h))
 
 -- every number of the list is fixed
-round-once : {c : ℕ → ℕ} (d p : ℕ) (list list' : List ℤ) → Round c d p list → Round c d p list' → list ≡ list'
-round-once d p list list' r r' = ext-getD (pos 0) list list' (r .due ∙ sym (r' .due)) each
+round-once : {c : ℕ → ℕ} (d p : ℕ) (list list' : List ℤ) → ReplyList c d p list → ReplyList c d p list' → list ≡ list'
+round-once d p list list' r r' = ext-getD (pos 0) list list' (r .sized ∙ sym (r' .sized)) each
   where
     last : (i : ℕ) → i ≡ 360 → getD list i (pos 0) ≡ getD list' i (pos 0)
     last i e = ap (λ (k : ℕ). getD list k (pos 0)) e ∙ r .force ∙ sym (r' .force) ∙ ap (λ (k : ℕ). getD list' k (pos 0)) (sym e)
 
     at : (i : ℕ) → i < length list → Dec (i < 360) → getD list i (pos 0) ≡ getD list' i (pos 0)
     at i l (yes h) = r .pressures i h ∙ sym (r' .pressures i h)
-    at i l (no h) = last i (omega (arith, r .due))
+    at i l (no h) = last i (omega (arith, r .sized))
 
     each : (i : ℕ) → i < length list → getD list i (pos 0) ≡ getD list' i (pos 0)
     each i l = at i l (decLt i 360)
@@ -81,7 +81,7 @@ module _ (s s' : List ℕ) (z : ℕ) (alike : Alike s s') where
       (λ h x y.
       let silos = accepted-alike s s' alike (shell-accepted s z (length lent) h .0) .silos in
       round-once _ _ left left' (x .filled)
-      (subst (λ (x : Silo). Round c (d-c (x .section)) (number (f t) x p-p z) left') (sym silos) (y .filled)))
+      (subst (λ (x : Silo). ReplyList c (d-c (x .section)) (load-number (f t) x p-p z) left') (sym silos) (y .filled)))
 
 module _ (f : List ℕ → FillingNumbers) (t : List ℕ) (c : ℕ → ℕ) (s : List ℕ) (z : ℕ) (lent left left' : List ℤ) (r r' : ℕ) where
   -- a sheet of six records, and a headroom of 0 behind it

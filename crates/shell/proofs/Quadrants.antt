@@ -14,7 +14,7 @@ use Rattle.fraction.proofs.Up.{up-zero}
 use Rattle.cosine.specs.Cosine.{CosineTable}
 use Rattle.cosine.specs.program.Table.{entry}
 use Rattle.cosine.proofs.CosineLaws.{tabulated}
-use Rattle.shell.specs.Shell.{apart, folded, outward, size, p-ps, F-p, Round}
+use Rattle.shell.specs.Shell.{apart, folded, outward, size, p-ps, F-p, ReplyList}
 use Rattle.shell.specs.program.Fill.{placed}
 
 pub folded-small : (θ : ℕ) → θ < 360 → folded θ < 91
@@ -48,7 +48,7 @@ far p θ d e h = go (decLe d 89)
         near entry p θ 90 (e ∙ omega arith) (omega arith) ∙ rw (g, size-none entry p (tabulated .exact .2)) refl
 
 -- none at 90 and 270 degrees, by any table that keeps its rule
-pub none : (c : ℕ → ℕ) (d p : ℕ) (list : List ℤ) → CosineTable c → Round c d p list → (getD list 90 (pos 0) ≡ pos 0) × (getD list 270 (pos 0) ≡ pos 0)
+pub none : (c : ℕ → ℕ) (d p : ℕ) (list : List ℤ) → CosineTable c → ReplyList c d p list → (getD list 90 (pos 0) ≡ pos 0) × (getD list 270 (pos 0) ≡ pos 0)
 unfolding apart
 none c d p list t r =
     let zero-size = ap pos (size-none c p (t .exact .2)) in
@@ -143,9 +143,9 @@ module _ (d p : ℕ) (l : List ℤ) (long : length l ≡ 361) (h : d < 91) where
       go (no e) = places (omega arith) (decLe θ 90) (decLe θ 180) (decLe θ 270)
 
 -- all sizes stored, and the force behind them
-pub filled : (d p k : ℕ) (l : List ℤ) (v : ℤ) → length l ≡ 361 → 91 ≤ k → RightBelow k p l → v ≡ pos (F-p d p) → Round entry d p (set l 360 v)
+pub filled : (d p k : ℕ) (l : List ℤ) (v : ℤ) → length l ≡ 361 → 91 ≤ k → RightBelow k p l → v ≡ pos (F-p d p) → ReplyList entry d p (set l 360 v)
 filled d p k l v long past right e = record {
-  due = length-set l 360 v ∙ long;
+  sized = length-set l 360 v ∙ long;
   pressures = λ θ g. getD-set-other l 360 θ v (pos 0) (λ o. omega (arith, o)) ∙ right θ g (omega (arith, folded-small θ g));
   force = getD-set-same l 360 v (pos 0) (omega arith) ∙ e;
 }

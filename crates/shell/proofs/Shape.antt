@@ -9,7 +9,7 @@ use lib.Dec.{le→leb}
 use lib.IntN.{ℤ, pos, negℤ, negℤ-negℤ}
 use lib.Signed.{_≤ℤ_}
 use Rattle.cosine.specs.program.Table.{entry}
-use Rattle.shell.specs.Shell.{apart, size, p-ps, Round}
+use Rattle.shell.specs.Shell.{apart, size, p-ps, ReplyList}
 use Rattle.shell.specs.Symmetry.{Symmetric}
 use Rattle.shell.proofs.Quadrants.{near, far}
 use Rattle.shell.proofs.Bounds.{size-falls}
@@ -67,7 +67,7 @@ module _ (p : ℕ) where
           (inward-order (size entry p (180 - θ)) (size entry p (180 - θ')) (size-falls p (180 - θ') (180 - θ) (omega arith)))
 
 -- the list of any silo and any depth
-pub symmetric : (d p : ℕ) (list : List ℤ) → Round entry d p list → Symmetric list
+pub symmetric : (d p : ℕ) (list : List ℤ) → ReplyList entry d p list → Symmetric list
 unfolding apart
 symmetric d p list r = record {
   mirrored = λ θ h g. r .pressures (360 - θ) (omega arith) ∙ same-angle p (360 - θ) θ (omega arith) (omega arith) ∙ sym (r .pressures θ g);

@@ -11,7 +11,7 @@ use Rattle.janssen.specs.Numbers.{FillingNumbers}
 use Rattle.description.specs.Silo.{V-of}
 use Rattle.loads.specs.Holds.{LowerAt, exact-patch}
 use Rattle.answers.specs.Answers.{silo-of}
-use Rattle.shell.specs.Shell.{folded, outward, signed, RoundOf}
+use Rattle.shell.specs.Shell.{folded, outward, signed, ReplyListOf}
 
 abbrev pub scaled : Fraction → Difference → Difference
 scaled F c = record { more = F ⊗ c .more; less = F ⊗ c .less }
@@ -26,9 +26,9 @@ pub record SizeHolds {A : Type 0} (Low : A → Type 0) (F : A → Fraction) (w d
 -- the reply list for the depth z
 pub record ShellClaim (f : FillingNumbers) (c : ℕ → ℕ) (s : List ℕ) (z : ℕ) (list : List ℤ) : Type 0 where
   -- every number in its place; each pressure has its sign, and its size keeps the allowance
-  pub filled : RoundOf f c s z list
+  pub filled : ReplyListOf f c s z list
   pub sizes : (θ : ℕ) → θ < 360
       → (n : ℕ) × (getD list θ (pos 0) ≡ signed (outward θ) n) × SizeHolds (LowerAt horizontal (silo-of s) z) (exact-patch (silo-of s)) 5 (folded θ) n
   -- going down, no size falls, and the force neither
-  pub down : (z' : ℕ) (list' : List ℤ) → RoundOf f c s z' list' → z ≤ z' → z' ≤ V-of s → (i : ℕ) → i < 361
+  pub down : (z' : ℕ) (list' : List ℤ) → ReplyListOf f c s z' list' → z ≤ z' → z' ≤ V-of s → (i : ℕ) → i < 361
       → natAbs (getD list i (pos 0)) ≤ natAbs (getD list' i (pos 0))

@@ -16,7 +16,7 @@ use Rattle.janssen.specs.Numbers.{FillingNumbers}
 use Rattle.records.specs.Rules.{Rule, _unless_}
 use Rattle.description.specs.Silo.{section-of}
 use Rattle.sheet.specs.Refusal.{sheet-rules-at}
-use Rattle.loads.specs.Load.{number}
+use Rattle.loads.specs.Load.{load-number}
 use Rattle.loads.specs.Load.Load.{p-p}
 use Rattle.answers.specs.Answers.{silo-of}
 
@@ -54,14 +54,14 @@ unfoldable pub F-p : ℕ → ℕ → ℕ
 F-p d p = up ((355 ⊘ 113) ÷ whole 2 ⊗ patch-height d ⊗ metres d ⊗ whole p)
 
 -- the reply list for the patch p of a circle of width d: 360 pressures, and the force
-pub record Round (c : ℕ → ℕ) (d p : ℕ) (list : List ℤ) : Type 0 where
-  pub due : length list ≡ 361
+pub record ReplyList (c : ℕ → ℕ) (d p : ℕ) (list : List ℤ) : Type 0 where
+  pub sized : length list ≡ 361
   pub pressures : (θ : ℕ) → θ < 360 → getD list θ (pos 0) ≡ p-ps c p θ
   pub force : getD list 360 (pos 0) ≡ pos (F-p d p)
 
 -- the reply list of a sheet and the depth z mm below the brim, with p_p as the answer list has it there
-abbrev pub RoundOf : FillingNumbers → (ℕ → ℕ) → List ℕ → ℕ → List ℤ → Type 0
-RoundOf f c s z list = Round c (d-c (section-of s)) (number f (silo-of s) p-p z) list
+abbrev pub ReplyListOf : FillingNumbers → (ℕ → ℕ) → List ℕ → ℕ → List ℤ → Type 0
+ReplyListOf f c s z list = ReplyList c (d-c (section-of s)) (load-number f (silo-of s) p-p z) list
 
 unfoldable pub is-circle : Section → Bool
 is-circle (Circle d) = true

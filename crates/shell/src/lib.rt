@@ -8,7 +8,7 @@ ghost use Rattle.janssen.specs.program.Pressure.{computed-by, computed};
 ghost use Rattle.description.specs.Silo.{V-of};
 ghost use Rattle.description.specs.program.Described.{described-of};
 ghost use Rattle.sheet.specs.Refusal.{refusal-of};
-ghost use Rattle.shell.specs.Shell.{is-circle, RoundOf};
+ghost use Rattle.shell.specs.Shell.{is-circle, ReplyListOf};
 ghost use Rattle.shell.specs.Promise.{ShellPromise};
 use description::Described;
 use janssen::Section;
@@ -36,7 +36,7 @@ fn fill_by(
     reply: &mut [i32],
 )
     requires { ⌜ (now entries ≡ table) × (now cosines ≡ cosine-table) × (refusal-of (now sheet) ≡ 0) × (described ≡ described-of (now sheet)) × (depth ≤ V-of (now sheet)) × (length (now reply) ≡ 361) ⌝ }
-    ensures { λ _. ⌜ RoundOf computed entry (now (sheet .entry)) depth (now (reply .exit)) ⌝ }
+    ensures { λ _. ⌜ ReplyListOf computed entry (now (sheet .entry)) depth (now (reply .exit)) ⌝ }
 {
     let basis = answers::fill::described_basis(described);
     let p_p = loads::patch_load(entries, basis, depth);
@@ -46,7 +46,7 @@ fn fill_by(
 // The whole list for the silo described and a depth, mm.
 fn fill(sheet: &[u8], described: Described, depth: u64, reply: &mut [i32])
     requires { ⌜ (refusal-of (now sheet) ≡ 0) × (described ≡ described-of (now sheet)) × (depth ≤ V-of (now sheet)) × (length (now reply) ≡ 361) ⌝ }
-    ensures { λ _. ⌜ RoundOf computed entry (now (sheet .entry)) depth (now (reply .exit)) ⌝ }
+    ensures { λ _. ⌜ ReplyListOf computed entry (now (sheet .entry)) depth (now (reply .exit)) ⌝ }
 {
     let entries = exponential::table::ENTRIES;
     let cosines = cosine::ENTRIES;

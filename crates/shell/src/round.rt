@@ -3,7 +3,7 @@ ghost use mathlib.Core.Path.{_≡_};
 ghost use Prim.Native.Nat.{_<_, _≤_, _^_};
 ghost use lib.ListN.{length};
 ghost use Rattle.cosine.specs.program.Table.{table, entry};
-ghost use Rattle.shell.specs.Shell.{size, F-p, Round};
+ghost use Rattle.shell.specs.Shell.{size, F-p, ReplyList};
 ghost use Rattle.shell.specs.program.Fill.{placed};
 use janssen::Pascals;
 
@@ -42,7 +42,7 @@ fn place(reply: &mut [i32], degrees: usize, size: Pascals)
 // The whole list: each size of a quadrant is worked out once. The place 360, which the size at 0 degrees is stored in too, is the force's.
 pub fn fill(cosines: &[u32; 91], d: u64, p: Pascals, reply: &mut [i32])
     requires { ⌜ (now cosines ≡ table) × (d ≤ 50000) × (p .0 < 2 ^ 21) × (length (now reply) ≡ 361) ⌝ }
-    ensures { λ _. ⌜ Round entry d (p .0) (now (reply .exit)) ⌝ }
+    ensures { λ _. ⌜ ReplyList entry d (p .0) (now (reply .exit)) ⌝ }
 {
     let mut degrees: usize = 0;
     while degrees < 91 {

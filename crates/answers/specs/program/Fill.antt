@@ -8,7 +8,7 @@ use Rattle.description.specs.declared.Described.{Described}
 use Rattle.description.specs.program.Described.{product-read}
 use Rattle.loads.specs.declared.Silo.{Silo}
 use Rattle.loads.specs.declared.Basis.{Basis}
-use Rattle.loads.specs.Load.{number, bottom-numbers}
+use Rattle.loads.specs.Load.{load-number, bottom-numbers}
 use Rattle.loads.specs.Load.Load.{p-he}
 use Rattle.loads.specs.program.Basis.{basis-for, depth-numbers}
 use Rattle.answers.specs.Each.{each}
@@ -29,7 +29,7 @@ silo-in d =
 
 -- the number of the strake k of a wall of these heights, at its lower edge
 abbrev pub at-strake : Silo → List ℕ → ℕ → List ℕ
-at-strake c heights k = number computed c p-he (sum (take (suc k) heights)) ∷ []
+at-strake c heights k = load-number computed c p-he (sum (take (suc k) heights)) ∷ []
 
 abbrev pub strake-numbers : Silo → List ℕ → List ℕ
 strake-numbers c heights = each (at-strake c heights) 0 (length heights)

@@ -58,7 +58,7 @@ returns-2 c =
     let none = c .before .if1 .left in
     let accepted = sym (sheet-answer s (length (a .out .now)) (start .pre)) ∙ sym (called .ensures .1 .answer) ∙ none in
     subst (AtStart (c .page-bytes .result) (called .last .1 .0)) (page-printed s accepted)
-    (at-start (page computed s) (drop (page-due s) (a .out .now)) (called .last .1 .0) (c .page-bytes .result) (c .page-bytes .ensures accepted ∙ sym (called .ensures .1 .done none .due))
+    (at-start (page computed s) (drop (page-due s) (a .out .now)) (called .last .1 .0) (c .page-bytes .result) (c .page-bytes .ensures accepted ∙ sym (called .ensures .1 .done none .sized))
     (called .ensures .1 .done none .text))
 
 pub reply-spec : {M : Type 1} → statement M

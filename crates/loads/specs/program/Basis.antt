@@ -10,7 +10,7 @@ use Rattle.janssen.specs.program.Prepare.{prepared-for}
 use Rattle.discharge.specs.program.Magnifier.{held}
 use Rattle.loads.specs.declared.Silo.{Silo}
 use Rattle.loads.specs.declared.Basis.{Basis}
-use Rattle.loads.specs.Load.{eight, load-depth, C-h, C-w, number}
+use Rattle.loads.specs.Load.{eight, load-depth, C-h, C-w, load-number}
 
 abbrev pub basis-for : Silo → Basis
 basis-for c = record {
@@ -41,4 +41,4 @@ pub record Sound (b : Basis) : Type 0 where
 
 -- the numbers of a depth
 unfoldable pub depth-numbers : Silo → ℕ → List ℕ
-depth-numbers c depth = map (λ l. number computed c l depth) eight
+depth-numbers c depth = map (λ l. load-number computed c l depth) eight

@@ -4,7 +4,7 @@ use mathlib.Core.List.{List}
 use lib.ListN.{set}
 use lib.IntN.{ℤ, pos, negℤ}
 use Rattle.janssen.specs.Numbers.{FillingNumbers}
-use Rattle.loads.specs.Load.{number}
+use Rattle.loads.specs.Load.{load-number}
 use Rattle.loads.specs.Load.Load.{p-p}
 use Rattle.answers.specs.Answers.{silo-of}
 
@@ -14,4 +14,4 @@ placed list d n = set (set (set (set list d (pos n)) (360 - d) (pos n)) (180 - d
 
 -- p_p at the depth z mm below the brim
 abbrev pub patch-at : FillingNumbers → List ℕ → ℕ → ℕ
-patch-at f s z = number f (silo-of s) p-p z
+patch-at f s z = load-number f (silo-of s) p-p z
