@@ -26,7 +26,7 @@ patch e d v = (2 ⊘ 10) ⊗ β e d ⊗ v
 abbrev pub C-b : Fraction
 C-b = 12 ⊘ 10
 
--- up(C·p): p_he = up(C_h·p_hf) (5.20), p_we = up(C_w·p_wf) (5.21), the floor up(1.2·p_vf(V))
+-- up(C·p): p_he = up(C_h·p_hf) (5.21), p_we = up(C_w·p_wf) (5.20), the floor up(1.2·p_vf(V))
 unfoldable pub magnified-load : Fraction → ℕ → ℕ
 magnified-load C p = up (C ⊗ whole p)
 
