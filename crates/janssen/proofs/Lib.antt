@@ -3,6 +3,7 @@ pub mod Geometry
 pub mod Argument
 pub mod FillingLaws
 pub mod Line
+pub mod Most
 pub mod Growth
 pub mod WallLoadRounding
 pub mod WallLoadLaws

@@ -1,4 +1,5 @@
--- No load is above its bound: a filling pressure is at most its P, which the largest sizes bound, P_w at most γR·z, and a magnifier at most 2.
+-- No load that holds is above its bound, whatever the filling numbers: a filling pressure is at most 2 above its P, which the largest sizes bound, P_w at
+-- most 2 above γR·z, and a magnifier is at most 2.
 -- Assumes nothing.
 use Prim.Native.Nat.{ℕ, zero, suc, _+_, _-_, _*_, _/_, _^_, _≤_, _<_}
 use mathlib.Core.Path.{_≡_}
@@ -9,14 +10,12 @@ use native.Mathlib.Omega.{arith}
 use lib.ListN.{getD, getD-replicate}
 use Rattle.fraction.specs.Fraction.{Fraction}
 use Rattle.fraction.proofs.Up.{up-le}
-use Rattle.janssen.specs.declared.Section.{Section}
 use Rattle.janssen.specs.Section.{d-c}
-use Rattle.janssen.specs.Filling.{Grain, grain-of, Kind, factors}
+use Rattle.janssen.specs.Filling.{grain-of}
 use Rattle.janssen.specs.Filling.Kind.{horizontal, vertical, wall-friction}
-use Rattle.janssen.specs.program.Range.{InRange}
-use Rattle.janssen.specs.program.Pressure.{computed, filling-by, filling, pressure, limit, decay, step, wall-load-by, wall-load, load, loaded-depth, z0-scaled, least-gone}
-use Rattle.janssen.proofs.Geometry.{most}
-use Rattle.janssen.proofs.FillingLaws.{limit-most}
+use Rattle.janssen.specs.Numbers.{FillingNumbers}
+use Rattle.janssen.specs.program.Pressure.{computed}
+use Rattle.janssen.proofs.Most.{band-most, wall-band-most}
 use Rattle.janssen.proofs.Line.{horizontal-line}
 use Rattle.discharge.specs.Discharge.{magnified-load, patch-load, C-b}
 use Rattle.hopper.specs.Hopper.{B, n3}
@@ -24,28 +23,12 @@ use Rattle.hopper.proofs.Least.{found}
 use Rattle.hopper.proofs.Hopper.{B-range, P-n-range, P-t-range}
 use Rattle.loads.specs.declared.Silo.{Silo}
 use Rattle.loads.specs.Load.{Load}
-use Rattle.loads.specs.Load.{load-depth, load-number, C-h, C-w, quarters, normal-number, friction-number, bottom-numbers}
+use Rattle.loads.specs.Load.{load-depth, pressure-at, load-number, C-h, C-w, quarters, normal-number, friction-number, bottom-numbers}
 use Rattle.loads.specs.Load.Load.{listed-depth, p-hf, p-wf, p-vf, P-w, p-he, p-we, p-p}
+use Rattle.loads.specs.Holds.{Holds}
 use Rattle.loads.specs.Bound.{bound, bottom-bound}
 use Rattle.loads.specs.program.Basis.{Reached, Fits}
 use Rattle.loads.proofs.LoadLaws.{bottom-flat, bottom-hopper, at-quarter, C-h-moderate, C-w-moderate, dc-positive}
-
--- ---- filling
-module _ (s : Section) (p : Grain) (i : InRange s p) where
-  filling-most : (k : Kind) (z : ℕ) → filling k s p z ≤ most k
-  unfolding filling-by pressure
-  filling-most k z =
-      let E : ℕ = decay (step (factors k) s p) z in
-      up-le (limit k s p * (2 ^ 40 - E)) (2 ^ 51) (most k) (omega arith)
-      (omega (arith, mul-le-mul {m₁ = 2 ^ 40 - E} {m₂ = 2 ^ 40} (limit-most k s p i) (omega arith)))
-
-  wall-load-most : (z : ℕ) → wall-load s p z ≤ 375 * z
-  unfolding wall-load-by load loaded-depth
-  wall-load-most z =
-      let E : ℕ = decay (step (factors wall-friction) s p) z in
-      let G : ℕ = z * 2 ^ 11 - z0-scaled s p * least-gone E / 2 ^ 40 in
-      up-le (limit wall-friction s p * G) (2 ^ 22 * 1000) (375 * z) (omega arith)
-      (omega (arith, mul-le-mul {m₁ = G} {m₂ = z * 2 ^ 11} (limit-most wall-friction s p i) (omega arith)))
 
 -- ---- discharge
 magnified-most : (C : Fraction) → 0 < C .bottom → C .top ≤ 2 * C .bottom → (p : ℕ) → magnified-load C p ≤ 2 * p
@@ -63,86 +46,86 @@ n3-most : (μ b : ℕ) → n3 μ b ≤ 4 * b
 unfolding n3
 n3-most μ b = found _ (4 * b) .within
 
-module _ (c : Silo) (fits : Fits c) where
-  abbrev filled : Kind → ℕ → ℕ
-  filled k depth = filling k (c .section) (grain-of (c .product)) (load-depth c depth)
-
-  p-he-most : (depth : ℕ) → load-number computed c p-he depth ≤ 8333334
-  p-he-most depth =
+-- every load of a depth at which it holds
+module _ (f : FillingNumbers) (c : Silo) (fits : Fits c) (depth : ℕ) (holds : (l : Load) → Holds c l depth (load-number f c l depth)) where
+  p-he-most : load-number f c p-he depth ≤ 8333338
+  p-he-most =
       omega (
         arith,
-        magnified-most (C-h c) (C-h-moderate c fits .proper) (C-h-moderate c fits .most) (filled horizontal depth),
-        filling-most (c .section) (grain-of (c .product)) (fits .range) horizontal (load-depth c depth),
+        magnified-most (C-h c) (C-h-moderate c fits .proper) (C-h-moderate c fits .most) (pressure-at f c horizontal depth),
+        band-most (fits .range) {k = horizontal} (holds p-hf),
       )
 
-  -- every load of a depth
-  pub within-bound : (l : Load) (depth : ℕ) → load-number computed c l depth ≤ bound l depth
+  pub within-bound : (l : Load) → load-number f c l depth ≤ bound l depth
   unfolding load-depth
-  within-bound listed-depth depth = omega arith
-  within-bound p-hf depth = filling-most (c .section) (grain-of (c .product)) (fits .range) horizontal (load-depth c depth)
-  within-bound p-wf depth = filling-most (c .section) (grain-of (c .product)) (fits .range) wall-friction (load-depth c depth)
-  within-bound p-vf depth = filling-most (c .section) (grain-of (c .product)) (fits .range) vertical (load-depth c depth)
-  within-bound P-w depth = omega (arith, wall-load-most (c .section) (grain-of (c .product)) (fits .range) (load-depth c depth))
-  within-bound p-he depth = p-he-most depth
-  within-bound p-we depth =
+  within-bound listed-depth = omega arith
+  within-bound p-hf = band-most (fits .range) {k = horizontal} (holds p-hf)
+  within-bound p-wf = band-most (fits .range) {k = wall-friction} (holds p-wf)
+  within-bound p-vf = band-most (fits .range) {k = vertical} (holds p-vf)
+  within-bound P-w = omega (arith, wall-band-most (fits .range) (holds P-w))
+  within-bound p-he = p-he-most
+  within-bound p-we =
       omega (
         arith,
-        magnified-most (C-w c) (C-w-moderate c fits .proper) (C-w-moderate c fits .most) (filled wall-friction depth),
-        filling-most (c .section) (grain-of (c .product)) (fits .range) wall-friction (load-depth c depth),
+        magnified-most (C-w c) (C-w-moderate c fits .proper) (C-w-moderate c fits .most) (pressure-at f c wall-friction depth),
+        band-most (fits .range) {k = wall-friction} (holds p-wf),
       )
-  within-bound p-p depth =
+  within-bound p-p =
       omega (
         arith,
-        patch-most (c .eccentricity) (d-c (c .section)) (load-number computed c p-he depth) (load-number computed c p-he depth) (dc-positive c fits)
+        patch-most (c .eccentricity) (d-c (c .section)) (load-number f c p-he depth) (load-number f c p-he depth) (dc-positive c fits)
             (fits .eccentricity-most) (omega arith),
-        p-he-most depth,
+        p-he-most,
       )
 
-  -- p_p down to a load depth of 74,000 mm, whatever the width: p_hf is at most 1.15·Ks·γ·z, less than 2 above
+-- p_p down to a load depth of 74,000 mm, whatever the width: p_hf is at most 1.15·Ks·γ·z, less than 2 above
+module _ (c : Silo) (fits : Fits c) where
   pub patch-small : (depth : ℕ) → Reached c depth → load-depth c depth ≤ 74000 → load-number computed c p-p depth < 2 ^ 21
   patch-small depth r h =
       let z : ℕ = load-depth c depth in
+      let p : ℕ = pressure-at computed c horizontal depth in
       let i = fits .range in
-      let p-hf-most : filled horizontal depth ≤ 2553002 =
+      let p-hf-most : p ≤ 2553002 =
       omega (arith, horizontal-line (c .section) (grain-of (c .product)) i z r, mul-le-mul (i .γ-in .most) (mul-le-mul (i .Ks-in .most) h)) in
-      let p-he-small = magnified-most (C-h c) (C-h-moderate c fits .proper) (C-h-moderate c fits .most) (filled horizontal depth) in
+      let p-he-small = magnified-most (C-h c) (C-h-moderate c fits .proper) (C-h-moderate c fits .most) p in
       omega (
         arith,
         patch-most (c .eccentricity) (d-c (c .section)) (load-number computed c p-he depth) 2042402 (dc-positive c fits) (fits .eccentricity-most)
             (omega (arith, p-he-small, p-hf-most)),
       )
 
-  vertical-small : load-number computed c p-vf (c .foot) < 2 ^ 25
-  vertical-small = omega (arith, within-bound p-vf (c .foot))
+-- every number of the bottom
+module _ (f : FillingNumbers) (c : Silo) (fits : Fits c) (holds : (l : Load) → Holds c l (c .foot) (load-number f c l (c .foot))) where
+  vertical-small : load-number f c p-vf (c .foot) < 2 ^ 25
+  vertical-small = omega (arith, within-bound f c fits (c .foot) holds p-vf)
 
-  normal-most : (k : ℕ) → 0 < c .run → k ≤ 4 → normal-number computed c k ≤ 2 ^ 26
+  normal-most : (k : ℕ) → 0 < c .run → k ≤ 4 → normal-number f c k ≤ 2 ^ 26
   normal-most k hr hk =
       let μ = c .product .friction in
       let b = B (c .section) (grain-of (c .product)) (c .height) (c .run) in
-      P-n-range (c .height) (c .run) k (n3 μ b) (load-number computed c p-vf (c .foot)) hr hk
+      P-n-range (c .height) (c .run) k (n3 μ b) (load-number f c p-vf (c .foot)) hr hk
       (omega (arith, n3-most μ b, B-range (c .section) (grain-of (c .product)) (c .height) (c .run) (fits .range) hr)) vertical-small
 
-  friction-most : (k : ℕ) → 0 < c .run → k ≤ 4 → friction-number computed c k ≤ 2 ^ 27
-  friction-most k hr hk = P-t-range (c .product .friction) (normal-number computed c k) (fits .range .μ-in .most) (normal-most k hr hk)
+  friction-most : (k : ℕ) → 0 < c .run → k ≤ 4 → friction-number f c k ≤ 2 ^ 27
+  friction-most k hr hk = P-t-range (c .product .friction) (normal-number f c k) (fits .range .μ-in .most) (normal-most k hr hk)
 
-  flat-most : c .run ≡ 0 → (k : ℕ) → k < 10 → getD (bottom-numbers computed c) k 0 ≤ bottom-bound
+  flat-most : c .run ≡ 0 → (k : ℕ) → k < 10 → getD (bottom-numbers f c) k 0 ≤ bottom-bound
   flat-most e zero h =
-      rw (bottom-flat computed c e) (omega (arith, magnified-most C-b (omega arith) (omega arith) (load-number computed c p-vf (c .foot)), vertical-small))
-  flat-most e (suc k) h = rw (bottom-flat computed c e) (omega (arith, getD-replicate {A = ℕ} 9 k 0 0 (le-of-suc-le-suc h)))
+      rw (bottom-flat f c e) (omega (arith, magnified-most C-b (omega arith) (omega arith) (load-number f c p-vf (c .foot)), vertical-small))
+  flat-most e (suc k) h = rw (bottom-flat f c e) (omega (arith, getD-replicate {A = ℕ} 9 k 0 0 (le-of-suc-le-suc h)))
 
-  hopper-most : 0 < c .run → (k : ℕ) → k < 10 → getD (bottom-numbers computed c) k 0 ≤ bottom-bound
-  hopper-most hr k h = rw (bottom-hopper computed c hr) (go (decLe k 4))
+  hopper-most : 0 < c .run → (k : ℕ) → k < 10 → getD (bottom-numbers f c) k 0 ≤ bottom-bound
+  hopper-most hr k h = rw (bottom-hopper f c hr) (go (decLe k 4))
     where
-      go : Dec (k ≤ 4) → getD (map (normal-number computed c) quarters ++ map (friction-number computed c) quarters) k 0 ≤ bottom-bound
-      go (yes g) = rw (at-quarter (normal-number computed c) (friction-number computed c) k g .0) (omega (arith, normal-most k hr g))
+      go : Dec (k ≤ 4) → getD (map (normal-number f c) quarters ++ map (friction-number f c) quarters) k 0 ≤ bottom-bound
+      go (yes g) = rw (at-quarter (normal-number f c) (friction-number f c) k g .0) (omega (arith, normal-most k hr g))
       go (no g) =
           let e : k ≡ 5 + (k - 5) = omega arith in
-          rw (e, at-quarter (normal-number computed c) (friction-number computed c) (k - 5) (omega arith) .1) (friction-most (k - 5) hr (omega arith))
+          rw (e, at-quarter (normal-number f c) (friction-number f c) (k - 5) (omega arith) .1) (friction-most (k - 5) hr (omega arith))
 
-  -- every number of the bottom
-  pub bottom-within : (k : ℕ) → k < 10 → getD (bottom-numbers computed c) k 0 ≤ bottom-bound
+  pub bottom-within : (k : ℕ) → k < 10 → getD (bottom-numbers f c) k 0 ≤ bottom-bound
   bottom-within k h = go (decLe (c .run) 0)
     where
-      go : Dec (c .run ≤ 0) → getD (bottom-numbers computed c) k 0 ≤ bottom-bound
+      go : Dec (c .run ≤ 0) → getD (bottom-numbers f c) k 0 ≤ bottom-bound
       go (yes g) = flat-most (omega arith) k h
       go (no g) = hopper-most (omega arith) k h

@@ -25,12 +25,14 @@ use Rattle.answers.specs.declared.length.Length.the-variants.{Due, Refused}
 use Rattle.answers.specs.program.Fill.{answers}
 use Rattle.answers.proofs.LengthLaws.{beside-refused, beside-due}
 use Rattle.answers.proofs.Places.{answers-filled}
+use Rattle.answers.specs.Claim.{Claim}
 use Rattle.answers.proofs.Demand.{claim}
+use Rattle.answers.proofs.Digits.{nine-digits}
 use Rattle.page.specs.Page.{page, page-size, page-due, page-length, page-rules}
 use Rattle.page.specs.Promise.{Written, PagePromise}
 use Rattle.page.specs.program.Text.{page-text}
 use Rattle.page.proofs.Lines.{page-text-length}
-use Rattle.page.proofs.Room.{answers-few, page-room}
+use Rattle.page.proofs.Room.{page-room}
 use Rattle.page.proofs.Named.{page-named}
 
 -- the page's length by the counts of the silo described
@@ -62,13 +64,14 @@ module _ (f : List ℕ → FillingNumbers) (t s lent left : List ℕ) (r : ℕ) 
   unfolding page-rules first-unmet
   measured-refused n e room = beside-due s _ (page-due s) (p .1 .answer) n e (λ o. simp (le-leb (page-due s) (length lent) (omega (arith, o, room))))
 
--- an accepted sheet's page is what the program writes, of the length told
-module _ (s : List ℕ) (h : refusal-of s ≡ 0) where
-  pub page-is : page-text (answers s) (depth-count s) ≡ page computed s
-  page-is = page-named computed s (answers s) (answers-filled s)
+-- an accepted sheet's page has the length told, whatever the filling numbers that meet demand 3
+pub page-length-is : (f : FillingNumbers) (s list : List ℕ) → refusal-of s ≡ 0 → Claim f s list → length (page f s) ≡ page-due s
+page-length-is f s list h c =
+    sym (ap length (page-named f s list (c .filled))) ∙ page-text-length list (nine-digits f s list h c) (depth-count s) ∙ page-room s list (c .filled .sized)
 
-  pub page-length-is : length (page computed s) ≡ page-due s
-  page-length-is = sym (ap length page-is) ∙ page-text-length (answers s) (answers-few s h) (depth-count s) ∙ page-room s h
+-- it is what the program writes
+pub page-is : (s : List ℕ) → page-text (answers s) (depth-count s) ≡ page computed s
+page-is s = page-named computed s (answers s) (answers-filled s)
 
 module _ (s lent : List ℕ) where
   -- any refusal leaves the buffer as it was
@@ -86,15 +89,15 @@ module _ (s lent : List ℕ) where
       → PagePromise computed-by table s lent 0 left
   unfolding first-unmet
   written left h n e =
-      let long : 0 + length (page computed s) ≡ page-due s = omega (arith, page-length-is s h) in
+      let held : Claim computed s (answers s) = claim s (answers s) h (answers-filled s) in
+      let long : 0 + length (page computed s) ≡ page-due s = omega (arith, page-length-is computed s (answers s) h held) in
       let met : first-unmet (page-rules s (length lent)) ≡ 0 = last-of-page s (length lent) h ∙ simp (le-leb (page-due s) (length lent) n) in
       let done : Written computed s lent left =
       record {
         text =
-            e ∙ ap (sets lent 0) (page-is s h)
+            e ∙ ap (sets lent 0) (page-is s)
             ∙ sets-eq (page computed s) lent 0 (omega (arith, long, n))
             ∙ ap (λ (k : ℕ). page computed s ++ drop k lent) long;
-        sized = page-length-is s h;
-        demand = (answers s, claim s (answers s) h (answers-filled s));
+        demand = (answers s, held);
       } in
       (tabulated, fills-done (page-rules s (length lent)) (Written computed s lent) lent left met done)

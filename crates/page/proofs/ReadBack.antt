@@ -14,7 +14,7 @@ use Rattle.text.specs.Text.{space}
 use Rattle.text.specs.Reading.{reading}
 use Rattle.text.specs.program.Mark.{number-field}
 use Rattle.text.proofs.Fields.{field-length, field-spaced, field-read}
-use Rattle.janssen.specs.program.Pressure.{computed}
+use Rattle.janssen.specs.Numbers.{FillingNumbers}
 use Rattle.description.specs.Silo.{strake-count, depth-count}
 use Rattle.sheet.specs.Refusal.{refusal-of}
 use Rattle.loads.specs.Load.{Load}
@@ -22,7 +22,7 @@ use Rattle.loads.specs.Load.Load.{listed-depth}
 use Rattle.answers.specs.Each.{each}
 use Rattle.answers.specs.Length.{length-due}
 use Rattle.answers.specs.Place.{load-place}
-use Rattle.answers.specs.Answers.{Filled}
+use Rattle.answers.specs.Claim.{Claim}
 use Rattle.answers.proofs.Stores.{part-at}
 use Rattle.answers.proofs.Digits.{eight-digits, nine-digits}
 use Rattle.page.specs.Page.{heading, page}
@@ -68,55 +68,55 @@ field-back text at m h room same =
     (λ t g. getD-take 9 (drop at text) t 0 (omega (arith, nine)) ∙ getD-drop at text t 0 ∙ same t (omega (arith, nine))))
     ∙ field-read m h
 
-module _ (s list behind : List ℕ) (h : refusal-of s ≡ 0) (fill : Filled computed s list) where
+module _ (f : FillingNumbers) (s list behind : List ℕ) (h : refusal-of s ≡ 0) (claim : Claim f s list) where
   abbrev n : ℕ
   n = depth-count s
 
   few : Few list
-  few = nine-digits s list h fill
+  few = nine-digits f s list h claim
 
   rest-count : length list - 8 * n ≡ 10 + strake-count s
   unfolding length-due
-  rest-count = omega (arith, fill .sized)
+  rest-count = omega (arith, claim .filled .sized)
 
   text-length : length (page-text list n) ≡ 73 * (1 + n) + 10 * (10 + strake-count s)
   text-length = page-text-length list few n ∙ ap (λ (m : ℕ). 73 * (1 + n) + 10 * m) rest-count
 
   -- the page, and what stands behind it in the buffer
-  inside : (at : ℕ) → at < length (page-text list n) → getD (page computed s ++ behind) at 0 ≡ getD (page-text list n) at 0
+  inside : (at : ℕ) → at < length (page-text list n) → getD (page f s ++ behind) at 0 ≡ getD (page-text list n) at 0
   inside at g =
-      ap (λ (l : List ℕ). getD (l ++ behind) at 0) (sym (page-named computed s list fill)) ∙ List·getD-append (page-text list n) behind 0 at g
+      ap (λ (l : List ℕ). getD (l ++ behind) at 0) (sym (page-named f s list (claim .filled))) ∙ List·getD-append (page-text list n) behind 0 at g
 
-  longer : length (page-text list n) ≤ length (page computed s ++ behind)
-  longer = omega (arith, length-append (page computed s) behind, ap length (page-named computed s list fill))
+  longer : length (page-text list n) ≤ length (page f s ++ behind)
+  longer = omega (arith, length-append (page f s) behind, ap length (page-named f s list (claim .filled)))
 
   -- number j of the depth i
   abbrev listed : ℕ → ℕ → ℕ
   listed i j = getD list (load-place n j i) 0
 
   load-character : (i j t : ℕ) → i < n → j < 8 → t < 9
-      → getD (page computed s ++ behind) (column-field i j + t) 0 ≡ getD (number-field (listed i j)) t 0
+      → getD (page f s ++ behind) (column-field i j + t) 0 ≡ getD (number-field (listed i j)) t 0
   load-character i j t hi hj ht =
       inside (column-field i j + t) (omega (arith, text-length))
       ∙ row-character list few n i j t hi hj ht
 
-  pub spaced : (i j : ℕ) → i < n → j < 8 → getD (page computed s ++ behind) (column-field i j) 0 ≡ space
+  pub spaced : (i j : ℕ) → i < n → j < 8 → getD (page f s ++ behind) (column-field i j) 0 ≡ space
   spaced i j hi hj =
-      ap (λ (at : ℕ). getD (page computed s ++ behind) at 0) (sym (add-zero (column-field i j)))
+      ap (λ (at : ℕ). getD (page f s ++ behind) at 0) (sym (add-zero (column-field i j)))
       ∙ load-character i j 0 hi hj (omega arith)
-      ∙ ap (λ (t : List ℕ). getD t 0 0) (field-spaced (listed i j) (eight-digits s list h fill j i hj hi))
+      ∙ ap (λ (t : List ℕ). getD t 0 0) (field-spaced (listed i j) (eight-digits f s list h claim j i hj hi))
 
-  load-back : (i j : ℕ) → i < n → j < 8 → number-at (page computed s ++ behind) (column-field i j) ≡ listed i j
+  load-back : (i j : ℕ) → i < n → j < 8 → number-at (page f s ++ behind) (column-field i j) ≡ listed i j
   load-back i j hi hj =
-      field-back (page computed s ++ behind) (column-field i j) (listed i j)
-      (omega (arith, eight-digits s list h fill j i hj hi)) (omega (arith, longer, text-length)) (λ t ht. load-character i j t hi hj ht)
+      field-back (page f s ++ behind) (column-field i j) (listed i j)
+      (omega (arith, eight-digits f s list h claim j i hj hi)) (omega (arith, longer, text-length)) (λ t ht. load-character i j t hi hj ht)
 
-  rest-back : (k : ℕ) → k < 10 + strake-count s → number-at (page computed s ++ behind) (rest-field n k) ≡ getD list (8 * n + k) 0
+  rest-back : (k : ℕ) → k < 10 + strake-count s → number-at (page f s ++ behind) (rest-field n k) ≡ getD list (8 * n + k) 0
   rest-back k hk =
-      field-back (page computed s ++ behind) (rest-field n k) (getD list (8 * n + k) 0) (few (8 * n + k)) (omega (arith, longer, text-length))
+      field-back (page f s ++ behind) (rest-field n k) (getD list (8 * n + k) 0) (few (8 * n + k)) (omega (arith, longer, text-length))
       (λ t ht. inside (rest-field n k + t) (omega (arith, text-length)) ∙ rest-character list few n k t (omega (arith, rest-count)) ht)
 
-  pub reads-back : ReadsBack s (page computed s ++ behind) list
+  pub reads-back : ReadsBack s (page f s ++ behind) list
   reads-back =
       record {
         depths-back = load-back;

@@ -6,6 +6,7 @@ use mathlib.Core.Path.{_≡_, ap}
 use mathlib.Core.List.{List}
 use native.Mathlib.Omega.{arith}
 use lib.ListN.{length}
+use Rattle.janssen.specs.program.Pressure.{computed}
 use Rattle.description.specs.Silo.{depth-count}
 use Rattle.description.specs.declared.Described.{Described}
 use Rattle.description.specs.program.Described.{described-of}
@@ -13,23 +14,24 @@ use Rattle.sheet.specs.Refusal.{refusal-of}
 use Rattle.answers.specs.Length.{length-due}
 use Rattle.answers.specs.program.Fill.{answers}
 use Rattle.answers.proofs.Places.{length-answers, answers-filled}
+use Rattle.answers.proofs.Demand.{claim}
 use Rattle.answers.proofs.Digits.{nine-digits}
 use Rattle.answers.proofs.Whole.{depths-near, strakes-few, described-wall}
 use Rattle.page.specs.Page.{page-due}
 use Rattle.page.proofs.Lines.{Few}
 
+-- the lines of depths, bottom and strakes
+pub page-room : (s list : List ℕ) → length list ≡ length-due s → 73 * (1 + depth-count s) + 10 * (length list - 8 * depth-count s) ≡ page-due s
+unfolding length-due page-due
+page-room s list e = omega (arith, e)
+
 module _ (s : List ℕ) (h : refusal-of s ≡ 0) where
   pub answers-few : Few (answers s)
-  answers-few = nine-digits s (answers s) h (answers-filled s)
+  answers-few = nine-digits computed s (answers s) h (claim s (answers s) h (answers-filled s))
 
   pub due-most : length-due s ≤ 1650
   unfolding length-due
   due-most = omega (arith, depths-near s h .1, strakes-few s h)
-
-  -- the lines of depths, bottom and strakes
-  pub page-room : 73 * (1 + depth-count s) + 10 * (length (answers s) - 8 * depth-count s) ≡ page-due s
-  unfolding length-due page-due
-  page-room = omega (arith, length-answers s)
 
   pub rows-inside : 8 * depth-count s ≤ length (answers s)
   unfolding length-due

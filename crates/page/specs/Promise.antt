@@ -11,9 +11,8 @@ use Rattle.answers.specs.Claim.{Claim}
 use Rattle.page.specs.Page.{page, page-due, page-rules}
 
 pub record Written (f : FillingNumbers) (s lent left : List ℕ) : Type 0 where
-  -- the page at the buffer's start, of exactly the length told, and the bytes past it as they were
+  -- the page at the buffer's start, and the bytes past it as they were
   pub text : left ≡ page f s ++ drop (page-due s) lent
-  pub sized : length (page f s) ≡ page-due s
   -- demand 3 holds of the same numbers in the answer list
   pub demand : (list : List ℕ) × Claim f s list
 

@@ -7,6 +7,7 @@ use lib.Seq.{sets-eq}
 use Rattle.janssen.specs.program.Pressure.{computed}
 use Rattle.sheet.proofs.Chains.{refusal-small}
 use Rattle.page.specs.Page.{page, page-due}
+use Rattle.page.proofs.Call.{page-length-is}
 use Rattle.load_page.specs.Reply.{refused-text}
 use Rattle.load_page.proofs.Texts.{sheet-answer, refused-is, page-printed, refused-length, AtStart, at-start}
 use borrow.Author.Needs.{needs}
@@ -57,9 +58,10 @@ returns-2 c =
     let s = a .sheet .now in
     let none = c .before .if1 .left in
     let accepted = sym (sheet-answer s (length (a .out .now)) (start .pre)) ∙ sym (called .ensures .1 .answer) ∙ none in
+    let done = called .ensures .1 .done none in
+    let long = page-length-is computed s (done .demand .0) accepted (done .demand .1) in
     subst (AtStart (c .page-bytes .result) (called .last .1 .0)) (page-printed s accepted)
-    (at-start (page computed s) (drop (page-due s) (a .out .now)) (called .last .1 .0) (c .page-bytes .result) (c .page-bytes .ensures accepted ∙ sym (called .ensures .1 .done none .sized))
-    (called .ensures .1 .done none .text))
+    (at-start (page computed s) (drop (page-due s) (a .out .now)) (called .last .1 .0) (c .page-bytes .result) (c .page-bytes .ensures accepted ∙ sym long) (done .text))
 
 pub reply-spec : {M : Type 1} → statement M
 reply-spec =

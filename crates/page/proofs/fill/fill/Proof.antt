@@ -10,6 +10,8 @@ use Rattle.answers.specs.Length.{length-due}
 use Rattle.answers.proofs.LengthLaws.{described-due}
 use Rattle.page.specs.program.Text.{page-text}
 use Rattle.page.proofs.Prefix.{lent-count, filled-front, filled-room, filled-count}
+use Rattle.answers.specs.program.Fill.{answers}
+use Rattle.answers.proofs.Places.{length-answers}
 use Rattle.page.proofs.Room.{answers-few, due-most, page-room, rows-inside, described-counts}
 use Rattle.page.proofs.fill.fill.Statement.{statement}
 use Rattle.page.proofs.fill.fill.Tie as tie
@@ -82,7 +84,7 @@ put-page-requires c κs =
     let h = start x .pre .0 in
     let list = filled-front (n x) (room x) (inside x) (filled .last .1 .1 .0) (filled .kept .1 .1 .0) ∙ filled .ensures in
     let count = described-counts (s x) h (start x .args .described) (start x .pre .1) .0 in
-    rw (list, count) (answers-few (s x) h, rows-inside (s x) h, omega (arith, page-room (s x) h, start x .pre .2))
+    rw (list, count) (answers-few (s x) h, rows-inside (s x) h, omega (arith, page-room (s x) (answers (s x)) (length-answers (s x)), start x .pre .2))
 
 same-length : tie.Need-same-length
 same-length c = search needs
