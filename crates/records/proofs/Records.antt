@@ -90,7 +90,7 @@ judged-there s k e h = h ∙ ap (λ (n : ℕ). first-unmet (record-rules s n k))
 
 -- the places noted so far, and that of record k behind them
 pub noted : (s places : List ℕ) (k at : ℕ) → k < length places → at ≡ place s k → ((j : ℕ) → j < k → getD places j 0 ≡ place s j)
-    → (j : ℕ) → j < k + 1 → getD (set places k at) j 0 ≡ place s j
+    → (j : ℕ) → j ≤ k → getD (set places k at) j 0 ≡ place s j
 noted s places k at l e before j h = at-place (decLt j k)
   where
     at-place : Dec (j < k) → getD (set places k at) j 0 ≡ place s j

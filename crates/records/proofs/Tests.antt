@@ -1,15 +1,21 @@
 -- Tests that are true, taken apart and put together.
 use Prim.Native.Nat.{ℕ, _≤_}
-use mathlib.Core.Bool.{Bool, true, false, _&&_, _||_}
+use mathlib.Core.Bool.{Bool, true, false, not, _&&_, _||_}
 use mathlib.Core.Logic.{_⊎_, inl, inr}
 use mathlib.Core.Path.{_≡_, refl}
 use native.Mathlib.Omega.{arith}
 use borrow.Author.Tests.{leb-true, le-leb}
-use lib.Dec.{leb}
+use lib.Dec.{T, leb}
 use Rattle.records.specs.Rules.{within}
 
 pub absurd : {A : Type 0} → ⊥ → A
 absurd x = elim x [ ]
+
+pub holds-true : (b : Bool) → T b → b ≡ true
+holds-true true h = refl
+
+pub fails-false : (b : Bool) → T (not b) → b ≡ false
+fails-false false h = refl
 
 pub false-true : false ≡ true → ⊥
 false-true h = let z : _≡_ {A = ℕ} 0 1 = cc in omega arith

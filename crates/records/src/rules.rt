@@ -5,6 +5,7 @@ ghost use Rattle.records.specs.Rules.{first-unmet};
 ghost use Rattle.records.specs.Format.{due, allowed, record-rules};
 ghost use Rattle.records.specs.program.Reader.{Stands};
 use crate::reader::Record;
+use crate::reader::record_end;
 
 // Whether the kind is the one due for record k.
 fn kind_due(k: usize, kind: u64) -> bool
@@ -43,7 +44,7 @@ pub fn record_refusal(sheet: &[u8], found: Record, k: usize) -> u32
     if !length_allowed(found.kind, found.length) {
         return 4;
     }
-    if sheet.len() < found.start + found.length as usize {
+    if sheet.len() < record_end(found) {
         return 2;
     }
     0

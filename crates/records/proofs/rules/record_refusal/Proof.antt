@@ -20,6 +20,7 @@ use Rattle.records.proofs.rules.record_refusal.Reads as reads
 use Rattle.records.proofs.rules.record_refusal.Lts as lts
 use Rattle.records.proofs.rules.kind_due.Reads as kind-due-reads
 use Rattle.records.proofs.rules.length_allowed.Reads as length-allowed-reads
+use Rattle.records.proofs.reader.record_end.Reads as record-end-reads
 
 abbrev of-read : List ℕ → Record → ℕ → List Rule
 of-read s f k =
@@ -34,7 +35,7 @@ unfolding record-rules
 judged s f k e = rw (e .started, e .kinded, e .sized) refl
 
 abbrev calls : lts.Claims
-calls = (kind-due-reads.Asked, kind-due-reads.Learnt, length-allowed-reads.Asked, length-allowed-reads.Learnt)
+calls = (kind-due-reads.Asked, kind-due-reads.Learnt, length-allowed-reads.Asked, length-allowed-reads.Learnt, record-end-reads.Asked, record-end-reads.Learnt)
 
 abbrev Start : Type 0
 Start = lts.Start calls reads.Pre reads.Post
@@ -93,19 +94,21 @@ returns-3 c =
     let before = c .before .before in
     sym (kind-right before ∙ last (read (start-2 before)) 2 (sym (c .before .length-allowed .ensures) ∙ not-true _ (c .if3 .taken)))
 
-add-if4 : tie.Need-add-if4
-add-if4 c = search needs
+record-end-requires : tie.Need-record-end-requires
+record-end-requires c κs = let start = start-3 c in (omega (arith, start .pre .0 .started), start .pre .0 .small)
 
 returns-4 : tie.Need-returns-4
 returns-4 c =
     let before = c .before .before in
-    sym (length-right before ∙ last (read (start-3 before)) 3 (lt-leb _ _ (c .if4 .taken)))
+    let a = start-3 before .args in
+    sym (length-right before ∙ last (read (start-3 before)) 3 (lt-leb (a .found .start + a .found .length) (length (a .sheet .now)) (omega (arith, c .if4 .taken, c .before .record-end .ensures))))
 
 returns-5 : tie.Need-returns-5
 unfolding first-unmet
 returns-5 c =
     let before = c .before .before in
-    sym (length-right before ∙ next (read (start-3 before)) 3 (le-leb _ _ (c .if4 .left)))
+    let a = start-3 before .args in
+    sym (length-right before ∙ next (read (start-3 before)) 3 (le-leb (a .found .start + a .found .length) (length (a .sheet .now)) (omega (arith, c .if4 .left, c .before .record-end .ensures))))
 
 pub record-refusal-spec : {M : Type 1} → statement M
 record-refusal-spec =
@@ -116,6 +119,6 @@ record-refusal-spec =
     returns-2
     length-allowed-requires
     returns-3
-    add-if4
+    record-end-requires
     returns-4
     returns-5)
