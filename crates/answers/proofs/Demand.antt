@@ -11,7 +11,7 @@ use native.Mathlib.Omega.{arith}
 use lib.ListN.{length}
 use Rattle.janssen.specs.Filling.{grain-of}
 use Rattle.janssen.specs.program.Pressure.{computed}
-use Rattle.records.specs.Format.{place, payload-length}
+use Rattle.records.specs.Format.{record-place, payload-length}
 use Rattle.records.proofs.Records.{six-least}
 use Rattle.description.specs.Silo.{section-of, product-of, bottom-of, depth-count, V-of, h-of}
 use Rattle.sheet.specs.Refusal.{refusal-of}
@@ -64,8 +64,8 @@ module _ (s : List ℕ) (a : Measured s) where
         foot-reached = reached (V-of s) (omega arith);
       }
 
-pub two-records : (s : List ℕ) → Measured s → place s 2 ≤ length s
-unfolding place payload-length
+pub two-records : (s : List ℕ) → Measured s → record-place s 2 ≤ length s
+unfolding record-place payload-length
 two-records s a = a .layout .present 1 (omega (arith, six-least s))
 
 -- section and product of two accepted sheets with equal first records

@@ -14,7 +14,7 @@ use lib.ListN.{length, getD, set, length-set}
 use lib.Seq.{getD-set-same, getD-set-other}
 use Rattle.janssen.specs.Numbers.{FillingNumbers}
 use Rattle.records.specs.Rules.{first-unmet}
-use Rattle.records.specs.Format.{u16, u32, place, payload, payload-length, layout-rules}
+use Rattle.records.specs.Format.{u16, u32, record-place, payload, payload-length, layout-rules}
 use Rattle.records.proofs.Records.{place-next, place-most}
 use Rattle.records.proofs.Alike.{SameBytes, SameRecord, u32-same}
 use Rattle.records.proofs.Written.{place-written, other-record, layout-written}
@@ -53,35 +53,35 @@ module _ (s : List ℕ) (c : ℕ) (ten : payload-length s 1 ≡ 10) where
   apart i n m =
       sym (getD-set-other (set s (payload s 1 + 8) (c % 256)) (payload s 1 + 9) i (c / 256 % 256) 0 m ∙ getD-set-other s (payload s 1 + 8) i (c % 256) 0 n)
 
-  before : SameBytes s s' 0 (place s 1 + 12)
+  before : SameBytes s s' 0 (record-place s 1 + 12)
   unfolding payload
   before i _ h = apart i (λ e. omega (arith, e, h)) (λ e. omega (arith, e, h))
 
-  after : (i : ℕ) → place s 1 + 14 ≤ i → getD s i 0 ≡ getD s' i 0
+  after : (i : ℕ) → record-place s 1 + 14 ≤ i → getD s i 0 ≡ getD s' i 0
   unfolding payload
   after i h = apart i (λ e. omega (arith, e, h)) (λ e. omega (arith, e, h))
 
-  next : place s 2 ≡ place s 1 + 14
+  next : record-place s 2 ≡ record-place s 1 + 14
   unfolding payload-length
   next = omega (arith, place-next s 1, ten)
 
-  there : (k : ℕ) → place s k ≡ place s' k
-  there = place-written s s' 1 (place s 1 + 12) (place s 1 + 14) size (omega arith) (omega (arith, next)) before after
+  there : (k : ℕ) → record-place s k ≡ record-place s' k
+  there = place-written s s' 1 (record-place s 1 + 12) (record-place s 1 + 14) size (omega arith) (omega (arith, next)) before after
 
   other : (k : ℕ) → (k ≡ 1 → ⊥) → SameRecord s s' k
-  other = other-record s s' 1 (place s 1 + 12) (place s 1 + 14) size (omega arith) (omega (arith, next)) before after
+  other = other-record s s' 1 (record-place s 1 + 12) (record-place s 1 + 14) size (omega arith) (omega (arith, next)) before after
 
   records-same : layout-rules s ≡ layout-rules s'
-  records-same = layout-written s s' 1 (place s 1 + 12) (place s 1 + 14) size (omega arith) (omega (arith, next)) before after
+  records-same = layout-written s s' 1 (record-place s 1 + 12) (record-place s 1 + 14) size (omega arith) (omega (arith, next)) before after
 
   headroom-same : headroom-of s ≡ headroom-of s'
   unfolding payload
   headroom-same =
-      let a = place s 6 + 4 in
-      let four = u32-same s s' (place s 1 + 14) (a + 4) (λ i l _. after i l) a (omega (arith, next, most)) (omega arith) in
+      let a = record-place s 6 + 4 in
+      let four = u32-same s s' (record-place s 1 + 14) (a + 4) (λ i l _. after i l) a (omega (arith, next, most)) (omega arith) in
       headroom-read s ∙ four ∙ ap (λ (p : ℕ). u32 s' (p + 4)) (there 6) ∙ sym (headroom-read s')
     where
-      most : place s 2 ≤ place s 6
+      most : record-place s 2 ≤ record-place s 6
       most = place-most s 2 4
 
   -- what both describe, where the records are not refused
@@ -89,13 +89,13 @@ module _ (s : List ℕ) (c : ℕ) (ten : payload-length s 1 ≡ 10) where
   parts-kept l = same-parts s s' l (λ k _ n. other k n) headroom-same
 
   -- γ, Ks and μ are the same, and C0 is c
-  module _ (inside : place s 2 ≤ length s) (least : 100 ≤ c) (most : c ≤ 200) where
-    factor-back : u16 s' (place s 1 + 12) ≡ c
+  module _ (inside : record-place s 2 ≤ length s) (least : 100 ≤ c) (most : c ≤ 200) where
+    factor-back : u16 s' (record-place s 1 + 12) ≡ c
     unfolding u16 with-factor payload
     factor-back =
-        let a = place s 1 + 4 + 8 in
-        let b = place s 1 + 4 + 9 in
-        let e : place s 1 + 12 ≡ a = omega arith in
+        let a = record-place s 1 + 4 + 8 in
+        let b = record-place s 1 + 4 + 9 in
+        let e : record-place s 1 + 12 ≡ a = omega arith in
         let f : a + 1 ≡ b = omega arith in
         let low : getD (set (set s a (c % 256)) b (c / 256 % 256)) a 0 ≡ c % 256 =
         getD-set-other (set s a (c % 256)) b a (c / 256 % 256) 0 (λ z. omega (arith, z)) ∙ getD-set-same s a (c % 256) 0 (omega (arith, inside, next)) in
@@ -107,7 +107,7 @@ module _ (s : List ℕ) (c : ℕ) (ten : payload-length s 1 ≡ 10) where
     unfolding product-sent payload
     product-written =
         let m = means-same s s' (there 1) (λ i _ h. before i (omega arith) h) in
-        let e : place s 1 + 4 + 8 ≡ place s 1 + 12 = omega arith in
+        let e : record-place s 1 + 4 + 8 ≡ record-place s 1 + 12 = omega arith in
         let C0 = ap (λ (p : ℕ). u16 s' (p + 4 + 8)) (sym (there 1)) ∙ ap (u16 s') e ∙ factor-back in
         λ i. record { weight = sym (m .0) i; ratio = sym (m .1 .0) i; friction = sym (m .1 .1) i; factor = C0 i }
 
@@ -170,7 +170,7 @@ module _ (f : FillingNumbers) (s : List ℕ) (c : ℕ) (least : 100 ≤ c) (most
       let ten = ok .layout .product-length in
       let s' = with-factor c s in
       let two-hundred : c ≤ 200 = omega (arith, most, factor-in s ok .most) in
-      let inside : place s 2 ≤ length s = two-records s ok in
+      let inside : record-place s 2 ≤ length s = two-records s ok in
       let silo : silo-of s' ≡ silo-with c (silo-of s) = silo-written s c ten inside least two-hundred (ok .layout) in
       let m : SameParts s s' = parts-kept s c ten (ok .layout) in
       let fits = silo-fits s ok in

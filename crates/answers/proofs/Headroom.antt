@@ -11,7 +11,7 @@ use native.Mathlib.Omega.{arith}
 use lib.ListN.{length, length-append}
 use Rattle.janssen.specs.Numbers.{FillingNumbers}
 use Rattle.records.specs.Rules.{first-unmet}
-use Rattle.records.specs.Format.{u16, u32, four-bytes, record-bytes, place, payload, allowed, record-rules, layout-rules}
+use Rattle.records.specs.Format.{u16, u32, four-bytes, record-bytes, record-place, payload, allowed, record-rules, layout-rules}
 use Rattle.records.proofs.Records.{seven-records}
 use Rattle.records.proofs.Alike.{SameRecord}
 use Rattle.records.proofs.Followed.{place-kept, record-kept, u32-behind, followed-passed, followed-refused}
@@ -36,7 +36,7 @@ use Rattle.answers.proofs.OneSilo.{Alike, one-length, one-call}
 abbrev pub level : List ℕ
 level = record-bytes 8 (four-bytes 0)
 
-module _ (s : List ℕ) (six : place s 6 ≡ length s) where
+module _ (s : List ℕ) (six : record-place s 6 ≡ length s) where
   -- each of the six records is the same
   kept : (k n : ℕ) → k + suc n ≡ 6 → SameRecord s (s ++ level) k
   kept = record-kept s level six
@@ -45,7 +45,7 @@ module _ (s : List ℕ) (six : place s 6 ≡ length s) where
   unfolding payload u32 u16
   none =
       let more = length-append s level in
-      let end : place (s ++ level) 6 ≡ length s = sym (place-kept s level six 6 0 refl) ∙ six in
+      let end : record-place (s ++ level) 6 ≡ length s = sym (place-kept s level six 6 0 refl) ∙ six in
       seventh-headroom (s ++ level) (seven-records (s ++ level) (λ e. omega (arith, e, more, end)))
       ∙ ap (λ (a : ℕ). u32 (s ++ level) (a + 4)) end
       ∙ u32-behind s level 4
@@ -73,7 +73,7 @@ module _ (s : List ℕ) (six : place s 6 ≡ length s) where
   -- no rule refuses the longer sheet that does not refuse s
   module _ (short : length s + 8 ≤ 1024) where
     records-by : Dec (first-unmet (layout-rules s) ≤ 0) → first-unmet (layout-rules s) ≡ first-unmet (layout-rules (s ++ level))
-    unfolding first-unmet record-rules allowed place u16
+    unfolding first-unmet record-rules allowed record-place u16
     records-by (yes z) =
         let h : first-unmet (layout-rules s) ≡ 0 = omega (arith, z) in
         h ∙ sym (followed-passed s level six (omega arith) short h)

@@ -6,18 +6,18 @@ use mathlib.Core.List.{List}
 use native.Mathlib.Omega.{arith}
 use lib.ListN.{length, getD, take}
 use lib.Seq.{getD-take, length-take-le}
-use Rattle.records.specs.Format.{place}
+use Rattle.records.specs.Format.{record-place}
 use Rattle.records.proofs.Records.{place-next}
 use Rattle.records.proofs.Alike.{SameBytes, SameRecord, record-same}
 
-module _ (s s' : List ℕ) (h : place s 2 ≤ length s) (h' : place s' 2 ≤ length s') (e : take (place s 2) s ≡ take (place s' 2) s') where
-  same-bytes : SameBytes s s' 0 (place s 2)
+module _ (s s' : List ℕ) (h : record-place s 2 ≤ length s) (h' : record-place s' 2 ≤ length s') (e : take (record-place s 2) s ≡ take (record-place s' 2) s') where
+  same-bytes : SameBytes s s' 0 (record-place s 2)
   same-bytes i _ l =
-      let n : place s 2 ≡ place s' 2 = sym (length-take-le (place s 2) s h) ∙ ap length e ∙ length-take-le (place s' 2) s' h' in
-      sym (getD-take (place s 2) s i 0 l) ∙ ap (λ (x : List ℕ). getD x i 0) e ∙ getD-take (place s' 2) s' i 0 (omega arith)
+      let n : record-place s 2 ≡ record-place s' 2 = sym (length-take-le (record-place s 2) s h) ∙ ap length e ∙ length-take-le (record-place s' 2) s' h' in
+      sym (getD-take (record-place s 2) s i 0 l) ∙ ap (λ (x : List ℕ). getD x i 0) e ∙ getD-take (record-place s' 2) s' i 0 (omega arith)
 
   pub first-record : SameRecord s s' 0
-  first-record = record-same s s' (place s 2) same-bytes 0 (omega (arith, place-next s 1))
+  first-record = record-same s s' (record-place s 2) same-bytes 0 (omega (arith, place-next s 1))
 
   pub second-record : SameRecord s s' 1
-  second-record = record-same s s' (place s 2) same-bytes 1 (omega arith)
+  second-record = record-same s s' (record-place s 2) same-bytes 1 (omega arith)

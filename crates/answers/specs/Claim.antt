@@ -5,7 +5,7 @@ use mathlib.Core.Path.{_≡_}
 use mathlib.Core.List.{List}
 use lib.ListN.{take}
 use Rattle.janssen.specs.Numbers.{FillingNumbers}
-use Rattle.records.specs.Format.{place}
+use Rattle.records.specs.Format.{record-place}
 use Rattle.description.specs.Silo.{V-of}
 use Rattle.sheet.specs.Refusal.{refusal-of}
 use Rattle.loads.specs.Load.{Load}
@@ -16,7 +16,7 @@ use Rattle.answers.specs.Answers.{silo-of, bottom-in, Filled}
 
 -- two sheets have the same section and product when their first two records are equal
 abbrev pub SameSectionAndProduct : List ℕ → List ℕ → Type 0
-SameSectionAndProduct s s' = take (place s 2) s ≡ take (place s' 2) s'
+SameSectionAndProduct s s' = take (record-place s 2) s ≡ take (record-place s' 2) s'
 
 pub record Claim (f : FillingNumbers) (s list : List ℕ) : Type 0 where
   -- the list has the length due, and each number in its place

@@ -3,7 +3,7 @@ use Prim.Native.Nat.{ℕ, _+_, _/_, _%_, _≤_, _<_}
 use mathlib.Core.Path.{_≡_}
 use mathlib.Core.List.{List}
 use lib.ListN.{length, set}
-use Rattle.records.specs.Format.{place, payload, payload-length}
+use Rattle.records.specs.Format.{record-place, payload, payload-length}
 use Rattle.description.specs.Silo.{product-sent, strake-count, depth-count}
 use Rattle.loads.specs.Load.{Load}
 use Rattle.loads.specs.Load.{FillingLoad}
@@ -18,7 +18,7 @@ with-factor c s = set (set s (payload s 1 + 8) (c % 256)) (payload s 1 + 9) (c /
 -- a sheet, refused or not, that has the product's record whole, with C0 = 0
 pub record Blank (s : List ℕ) : Type 0 where
   pub ten : payload-length s 1 ≡ 10
-  pub inside : place s 2 ≤ length s
+  pub inside : record-place s 2 ≤ length s
   pub blank : product-sent s .factor ≡ 0
 
 -- a list left for the sheet s, beside one left for s'

@@ -12,7 +12,7 @@ use Rattle.janssen.specs.Section.{side-a, side-b, d-c, R}
 use Rattle.janssen.specs.Filling.{Ks, μ, z0, q, γR, P}
 use Rattle.janssen.specs.program.Pressure.{step, limit, decay-by, pressure, filling-by, computed-by, computed}
 use Rattle.discharge.specs.Discharge.{magnifier, magnified-load}
-use Rattle.records.specs.Format.{u16, u32, numbers, place, kind, payload, payload-length, record-count}
+use Rattle.records.specs.Format.{u16, u32, numbers, record-place, kind, payload, payload-length, record-count}
 use Rattle.description.specs.Silo.{section-of, product-sent, product-of, factor-read, eccentricities-of, bottom-of, strake-count, strakes-of, depth-count, depths-of, sum, V-of, headroom-of}
 use Rattle.loads.specs.Load.{load-depth, load-number}
 use Rattle.loads.specs.Load.Load.{p-he}
@@ -23,11 +23,11 @@ use Rattle.answers.proofs.Factor.{acts-as-155}
 use Rattle.cases.specs.Cases.{behind-section, case-sheet, factor-sheet}
 
 blank : Blank (factor-sheet 0)
-unfolding behind-section case-sheet place payload payload-length u16 u32 product-sent
+unfolding behind-section case-sheet record-place payload payload-length u16 u32 product-sent
 blank = record { ten = refl; inside = leb→le _ _ tt; blank = refl }
 
 written : with-factor 155 (factor-sheet 0) ≡ factor-sheet 155
-unfolding with-factor behind-section case-sheet payload place u16
+unfolding with-factor behind-section case-sheet payload record-place u16
 written = refl
 
 pub same-as-155 : (lent left left' : List ℕ) (r r' : ℕ) → Promise computed-by table (factor-sheet 0) lent r left → Promise computed-by table (factor-sheet 155) lent r' left'
@@ -37,11 +37,11 @@ same-as-155 lent left left' r r' a b =
 
 -- p_he of the second depth, 5,000
 p-he-beside : (load-number computed (silo-of (factor-sheet 0)) p-he (depth (factor-sheet 0) 1) ≡ 27276) × (load-number computed (silo-of (factor-sheet 135)) p-he (depth (factor-sheet 135) 1) ≡ 23756)
-unfolding behind-section case-sheet place payload payload-length kind u16 u32 numbers section-of product-sent product-of factor-read eccentricities-of bottom-of strake-count strakes-of depth-count depths-of sum V-of headroom-of record-count load-depth magnifier magnified-load filling-by pressure decay-by limit step P q z0 γR R Ks μ up lower-by between denominator entry-in table side-a side-b d-c
+unfolding behind-section case-sheet record-place payload payload-length kind u16 u32 numbers section-of product-sent product-of factor-read eccentricities-of bottom-of strake-count strakes-of depth-count depths-of sum V-of headroom-of record-count load-depth magnifier magnified-load filling-by pressure decay-by limit step P q z0 γR R Ks μ up lower-by between denominator entry-in table side-a side-b d-c
 p-he-beside = (refl, refl)
 
 pub other-than-135 : (lent left left' : List ℕ) → Promise computed-by table (factor-sheet 0) lent 0 left → Promise computed-by table (factor-sheet 135) lent 0 left' → left ≡ left' → ⊥
-unfolding behind-section case-sheet place payload-length u16 depth-count
+unfolding behind-section case-sheet record-place payload-length u16 depth-count
 other-than-135 lent left left' a b e =
     let x : getD left 13 0 ≡ 27276 = a .1 .done refl .filled .at-depths 5 1 (ltb→lt _ _ tt) (ltb→lt _ _ tt) ∙ p-he-beside .0 in
     let y : getD left' 13 0 ≡ 23756 = b .1 .done refl .filled .at-depths 5 1 (ltb→lt _ _ tt) (ltb→lt _ _ tt) ∙ p-he-beside .1 in

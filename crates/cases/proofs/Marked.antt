@@ -22,7 +22,7 @@ use Rattle.discharge.specs.program.Magnifier.{horizontal-magnifier, friction-ma
 use Rattle.loads.specs.Load.{Load}
 use Rattle.loads.specs.Load.{load-depth, full-height, C-h, C-w, load-number}
 use Rattle.loads.specs.Load.Load.{listed-depth, p-hf, p-wf, p-vf, P-w, p-he, p-we, p-p}
-use Rattle.records.specs.Format.{u16, u32, numbers, place, kind, payload, payload-length, allowed, record-rules, records-rules, record-count, layout-rules}
+use Rattle.records.specs.Format.{u16, u32, numbers, record-place, kind, payload, payload-length, allowed, record-rules, records-rules, record-count, layout-rules}
 use Rattle.records.specs.Rules.{_unless_, first-unmet}
 use Rattle.records.proofs.Chain.{apart, skipped}
 use Rattle.description.specs.Silo.{section-of, product-sent, product-of, factor-read, eccentricities-of, bottom-of, strake-count, strakes-of, depth-count, depths-of, sum, V-of, headroom-of, h-of}
@@ -98,7 +98,7 @@ middle p-we = refl
 middle p-p = refl
 
 pub marked : Marked computed-by table
-unfolding load-depth D N magnifier magnified-load patch-load filling-by pressure wall-load-by load loaded-depth z0-scaled decay-by limit step P q z0 γR R Ks μ up lower-by between denominator entry-in table behind-section case-sheet rectangle-sheet refusal-of length-refusal value-rules rules-with told length-due first-unmet layout-rules record-count records-rules record-rules allowed place payload payload-length kind u16 u32 numbers section-of product-sent eccentricities-of bottom-of strake-count strakes-of depth-count depths-of sum V-of headroom-of h-of sides-met proportion-met strakes-met depths-met side-a side-b d-c product-of factor-read
+unfolding load-depth D N magnifier magnified-load patch-load filling-by pressure wall-load-by load loaded-depth z0-scaled decay-by limit step P q z0 γR R Ks μ up lower-by between denominator entry-in table behind-section case-sheet rectangle-sheet refusal-of length-refusal value-rules rules-with told length-due first-unmet layout-rules record-count records-rules record-rules allowed record-place payload payload-length kind u16 u32 numbers section-of product-sent eccentricities-of bottom-of strake-count strakes-of depth-count depths-of sum V-of headroom-of h-of sides-met proportion-met strakes-met depths-met side-a side-b d-c product-of factor-read
 marked =
     record {
       described = refl;

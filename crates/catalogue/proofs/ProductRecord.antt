@@ -11,7 +11,7 @@ use lib.Dec.{eqb}
 use lib.ListN.{length, getD, length-append}
 use Rattle.janssen.specs.declared.Product.{Product}
 use Rattle.records.specs.Rules.{within, first-unmet}
-use Rattle.records.specs.Format.{u16, u32, place, payload, allowed, record-rules}
+use Rattle.records.specs.Format.{u16, u32, record-place, payload, allowed, record-rules}
 use Rattle.records.proofs.Tests.{absurd, both-true, either-true, within-true}
 use Rattle.records.proofs.Followed.{u16-behind, u32-behind}
 use Rattle.description.specs.Silo.{product-sent}
@@ -88,7 +88,7 @@ module _ (p : List ℕ) (r : Product) (q : List ℕ) where
       simp (le-leb (length p + 4) (length s) f, header-kind, header-length, le-leb (length p + 4 + 10) (length s) g)
 
   -- inside rule 7 it reads back as the product
-  product-read-back : product-met r ≡ true → place (around p r q) 1 ≡ length p → product-sent (around p r q) ≡ r
+  product-read-back : product-met r ≡ true → record-place (around p r q) 1 ≡ length p → product-sent (around p r q) ≡ r
   unfolding product-sent payload record-of u16 u32
   product-read-back m e =
       let s = around p r q in
@@ -99,11 +99,11 @@ module _ (p : List ℕ) (r : Product) (q : List ℕ) where
       let b3 = both-true (γ-in && Ks-in && μ-in) (eqb (r .factor) 0 || within 100 200 (r .factor)) m in
       let b2 = both-true (γ-in && Ks-in) μ-in (b3 .0) in
       let b1 = both-true γ-in Ks-in (b2 .0) in
-      let at : (n : ℕ) → place s 1 + 4 + n ≡ length p + (4 + n) = λ n. omega arith in
-      let w : u32 s (place s 1 + 4) ≡ r .weight = ap (λ x. u32 s (x + 4)) e ∙ u32-behind p l 4 ∙ four-back (r .weight) (omega (arith, within-true 1000 30000 (r .weight) (b1 .0) .1)) in
-      let k : u16 s (place s 1 + 4 + 4) ≡ r .ratio = ap (u16 s) (at 4) ∙ u16-behind p l 8 ∙ two-back (r .ratio) (omega (arith, within-true 20 100 (r .ratio) (b1 .1) .1)) in
-      let f : u16 s (place s 1 + 4 + 6) ≡ r .friction = ap (u16 s) (at 6) ∙ u16-behind p l 10 ∙ two-back (r .friction) (omega (arith, within-true 10 100 (r .friction) (b2 .1) .1)) in
-      let c : u16 s (place s 1 + 4 + 8) ≡ r .factor = ap (u16 s) (at 8) ∙ u16-behind p l 12 ∙ two-back (r .factor) (factor-most (r .factor) (either-true (eqb (r .factor) 0) (within 100 200 (r .factor)) (b3 .1))) in
+      let at : (n : ℕ) → record-place s 1 + 4 + n ≡ length p + (4 + n) = λ n. omega arith in
+      let w : u32 s (record-place s 1 + 4) ≡ r .weight = ap (λ x. u32 s (x + 4)) e ∙ u32-behind p l 4 ∙ four-back (r .weight) (omega (arith, within-true 1000 30000 (r .weight) (b1 .0) .1)) in
+      let k : u16 s (record-place s 1 + 4 + 4) ≡ r .ratio = ap (u16 s) (at 4) ∙ u16-behind p l 8 ∙ two-back (r .ratio) (omega (arith, within-true 20 100 (r .ratio) (b1 .1) .1)) in
+      let f : u16 s (record-place s 1 + 4 + 6) ≡ r .friction = ap (u16 s) (at 6) ∙ u16-behind p l 10 ∙ two-back (r .friction) (omega (arith, within-true 10 100 (r .friction) (b2 .1) .1)) in
+      let c : u16 s (record-place s 1 + 4 + 8) ≡ r .factor = ap (u16 s) (at 8) ∙ u16-behind p l 12 ∙ two-back (r .factor) (factor-most (r .factor) (either-true (eqb (r .factor) 0) (within 100 200 (r .factor)) (b3 .1))) in
       simp (w, k, f, c)
 
 -- the record of a row and a wall, as the product record of a sheet, passes rules 2 to 4 and rule 7, and is read as its product
@@ -114,7 +114,7 @@ module _ (before behind : List ℕ) (row wall : ℕ) where
   abbrev sheet : List ℕ
   sheet = around before product behind
 
-  pub catalogue-accepted : row < 10 → wall < 2 → place sheet 1 ≡ length before → (first-unmet (record-rules sheet (length before) 1) ≡ 0) × (product-sent sheet ≡ product) × (product-met (product-sent sheet) ≡ true)
+  pub catalogue-accepted : row < 10 → wall < 2 → record-place sheet 1 ≡ length before → (first-unmet (record-rules sheet (length before) 1) ≡ 0) × (product-sent sheet ≡ product) × (product-met (product-sent sheet) ≡ true)
   catalogue-accepted h w e =
       let m = rows-met row wall h w in
       let b = product-read-back before product behind m e in

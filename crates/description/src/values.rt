@@ -2,7 +2,7 @@
 ghost use mathlib.Core.Path.{_≡_};
 ghost use Prim.Native.Nat.{_+_, _-_, _<_, _≤_};
 ghost use Rattle.janssen.specs.Section.{side-a, side-b};
-ghost use Rattle.records.specs.Format.{place};
+ghost use Rattle.records.specs.Format.{record-place};
 ghost use Rattle.description.specs.Silo.{section-of, product-sent, factor-read, eccentricities-of, bottom-of, strake-count, headroom-of};
 ghost use Rattle.description.specs.program.Described.{wall-of, product-read};
 ghost use Rattle.description.specs.program.Pair.{PairAt};
@@ -23,7 +23,7 @@ pub fn payload_bytes(at: usize, end: usize) -> usize
 }
 
 pub fn read_section(sheet: &[u8], at: usize) -> Section
-    requires { ⌜ (at ≡ place (now sheet) 0) × (at ≤ 1024) ⌝ }
+    requires { ⌜ (at ≡ record-place (now sheet) 0) × (at ≤ 1024) ⌝ }
     ensures { λ r. ⌜ (r ≡ section-of (now (sheet .entry))) × (side-a r < 4294967296) × (side-b r < 4294967296) ⌝ }
 {
     let start = at + 4;
@@ -37,7 +37,7 @@ pub fn read_section(sheet: &[u8], at: usize) -> Section
 
 // γ, Ks, μ and C0 as sent.
 pub fn read_product(sheet: &[u8], at: usize) -> Product
-    requires { ⌜ (at ≡ place (now sheet) 1) × (at ≤ 1024) ⌝ }
+    requires { ⌜ (at ≡ record-place (now sheet) 1) × (at ≤ 1024) ⌝ }
     ensures { λ r. ⌜ r ≡ product-sent (now (sheet .entry)) ⌝ }
 {
     let start = at + 4;
@@ -86,7 +86,7 @@ fn read_pair(sheet: &[u8], at: usize) -> Pair
 }
 
 pub fn read_eccentricities(sheet: &[u8], at: usize) -> Eccentricities
-    requires { ⌜ (at ≡ place (now sheet) 2) × (at ≤ 1024) ⌝ }
+    requires { ⌜ (at ≡ record-place (now sheet) 2) × (at ≤ 1024) ⌝ }
     ensures { λ r. ⌜ (r ≡ eccentricities-of (now (sheet .entry))) × (r .inlet < 4294967296) × (r .outlet < 4294967296) ⌝ }
 {
     let read = read_pair(sheet, at);
@@ -97,7 +97,7 @@ pub fn read_eccentricities(sheet: &[u8], at: usize) -> Eccentricities
 }
 
 pub fn read_bottom(sheet: &[u8], at: usize) -> Bottom
-    requires { ⌜ (at ≡ place (now sheet) 3) × (at ≤ 1024) ⌝ }
+    requires { ⌜ (at ≡ record-place (now sheet) 3) × (at ≤ 1024) ⌝ }
     ensures { λ r. ⌜ (r ≡ bottom-of (now (sheet .entry))) × (r .height < 4294967296) × (r .run < 4294967296) ⌝ }
 {
     let read = read_pair(sheet, at);
@@ -109,7 +109,7 @@ pub fn read_bottom(sheet: &[u8], at: usize) -> Bottom
 
 // The strake heights, in 24 places, and their sum.
 pub fn read_wall(sheet: &[u8], at: usize, end: usize) -> Wall
-    requires { ⌜ (at ≡ place (now sheet) 4) × (end ≡ place (now sheet) 5) × (end ≤ 1024) × (strake-count (now sheet) ≤ 24) ⌝ }
+    requires { ⌜ (at ≡ record-place (now sheet) 4) × (end ≡ record-place (now sheet) 5) × (end ≤ 1024) × (strake-count (now sheet) ≤ 24) ⌝ }
     ensures { λ r. ⌜ (r ≡ wall-of (now (sheet .entry))) × (r .foot < 4294967296) ⌝ }
 {
     let count = payload_bytes(at, end) / 2;
@@ -133,7 +133,7 @@ pub fn read_wall(sheet: &[u8], at: usize, end: usize) -> Wall
 
 // The headroom: a sheet of six records ends at `at`, and what lies past its end reads as 0.
 pub fn read_headroom(sheet: &[u8], at: usize) -> u64
-    requires { ⌜ (at ≡ place (now sheet) 6) × (at ≤ 1024) ⌝ }
+    requires { ⌜ (at ≡ record-place (now sheet) 6) × (at ≤ 1024) ⌝ }
     ensures { λ r. ⌜ (r ≡ headroom-of (now (sheet .entry))) × (r < 4294967296) ⌝ }
 {
     four_bytes(sheet, at + 4)

@@ -9,7 +9,7 @@ use lib.ListN.{length}
 use Rattle.records.specs.Rules.{_unless_, first-unmet}
 use Rattle.records.proofs.Fills.{fills-alike}
 use Rattle.janssen.specs.Numbers.{FillingNumbers}
-use Rattle.records.specs.Format.{place}
+use Rattle.records.specs.Format.{record-place}
 use Rattle.sheet.specs.Refusal.{refusal-of}
 use Rattle.sheet.proofs.Chains.{sheet-met, answers-alike}
 use Rattle.sheet.proofs.Parts.{SameParts, loads-alike}
@@ -58,7 +58,7 @@ module _ (s s' : List ℕ) where
         x .text ∙ rw (page-same o (f t) list (claim .filled), due-same (o .parts)) refl ∙ sym (y .text))
 
 -- a sheet of six records, and a headroom of 0 behind it
-module _ (s : List ℕ) (six : place s 6 ≡ length s) (short : length s + 8 ≤ 1024) where
+module _ (s : List ℕ) (six : record-place s 6 ≡ length s) (short : length s + 8 ≤ 1024) where
   pub level-page-length : page-length s ≡ page-length (s ++ level)
   level-page-length = one-page-length s (s ++ level) (level-alike s six short)
 

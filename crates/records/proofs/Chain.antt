@@ -28,7 +28,7 @@ positive (suc n) = true
 
 abbrev pub numbered : List Rule → Bool
 numbered [] = true
-numbered (r ∷ l) = positive (r .number) && numbered l
+numbered (r ∷ l) = positive (r .refusal) && numbered l
 
 -- whether rule i of a chain is met
 abbrev pub met-at : List Rule → ℕ → Bool
@@ -45,8 +45,8 @@ first-met (suc n) false l p h = absurd (omega arith)
 
 rule-apart : (r : Rule) (l : List Rule) → numbered (r ∷ l) ≡ true → first-unmet (r ∷ l) ≡ 0 → (r .met ≡ true) × (numbered l ≡ true) × (first-unmet l ≡ 0)
 rule-apart r l p h =
-    let q = both-true (positive (r .number)) (numbered l) p in
-    let m = first-met (r .number) (r .met) l (q .0) h in
+    let q = both-true (positive (r .refusal)) (numbered l) p in
+    let m = first-met (r .refusal) (r .met) l (q .0) h in
     (m .0, q .1, m .1)
 
 pub met : (l : List Rule) → numbered l ≡ true → first-unmet l ≡ 0 → (i : ℕ) → met-at l i ≡ true
@@ -68,14 +68,14 @@ module _ (b : List Rule) where
   pub stopped : (a : List Rule) → (first-unmet a ≡ 0 → ⊥) → first-unmet (a ++ b) ≡ first-unmet a
   unfolding first-unmet
   stopped [] h = absurd (h refl)
-  stopped (r ∷ a) h = stopped-at (r .met) (r .number) a (stopped a) h
+  stopped (r ∷ a) h = stopped-at (r .met) (r .refusal) a (stopped a) h
 
   pub apart : (a : List Rule) → numbered a ≡ true → first-unmet (a ++ b) ≡ 0 → (first-unmet a ≡ 0) × (first-unmet b ≡ 0)
   unfolding first-unmet
   apart [] p h = (refl, h)
   apart (r ∷ a) p h =
-      let q = both-true (positive (r .number)) (numbered a) p in
-      let m = first-met (r .number) (r .met) (a ++ b) (q .0) h in
+      let q = both-true (positive (r .refusal)) (numbered a) p in
+      let m = first-met (r .refusal) (r .met) (a ++ b) (q .0) h in
       let rest = apart a (q .1) (m .1) in
       (rw (m .0) (rest .0), rest .1)
 
@@ -91,7 +91,7 @@ chains-alike a a' b b' p p' e alike = go (decLe (first-unmet a) 0)
 -- the number of rule i of a chain
 abbrev pub number-at : List Rule → ℕ → ℕ
 number-at [] i = 0
-number-at (r ∷ l) zero = r .number
+number-at (r ∷ l) zero = r .refusal
 number-at (r ∷ l) (suc i) = number-at l i
 
 pub next : (l : List Rule) (i : ℕ) → met-at l i ≡ true → first-unmet (drop i l) ≡ first-unmet (drop (suc i) l)
@@ -115,15 +115,15 @@ either-behind : (m : Bool) (k : ℕ) {x y n : ℕ} → (x ≡ y) ⊎ (x ≡ n) �
 either-behind true k h = h
 either-behind false k h = inl refl
 
-pub inserted : (a : List Rule) (r : Rule) (b : List Rule) → (first-unmet (a ++ (r ∷ b)) ≡ first-unmet (a ++ b)) ⊎ (first-unmet (a ++ (r ∷ b)) ≡ r .number)
+pub inserted : (a : List Rule) (r : Rule) (b : List Rule) → (first-unmet (a ++ (r ∷ b)) ≡ first-unmet (a ++ b)) ⊎ (first-unmet (a ++ (r ∷ b)) ≡ r .refusal)
 unfolding first-unmet
-inserted [] r b = either-first (r .met) (r .number) (first-unmet b)
-inserted (q ∷ a) r b = either-behind (q .met) (q .number) (inserted a r b)
+inserted [] r b = either-first (r .met) (r .refusal) (first-unmet b)
+inserted (q ∷ a) r b = either-behind (q .met) (q .refusal) (inserted a r b)
 
 -- whether a number is that of a rule
 abbrev pub has : List Rule → ℕ → Bool
 has [] n = false
-has (r ∷ l) n = eqb (r .number) n || has l n
+has (r ∷ l) n = eqb (r .refusal) n || has l n
 
 among-next : (m : Bool) (k n : ℕ) (l : List Rule) → (first-unmet l ≡ n → has l n ≡ true) → cond m (first-unmet l) k ≡ n → (eqb k n || has l n) ≡ true
 among-next true k n l rest h = either-right (eqb k n) (has l n) (rest h)
@@ -132,7 +132,7 @@ among-next false k n l rest h = simp (eq-eqb k n h)
 among : (l : List Rule) (n : ℕ) → 0 < n → first-unmet l ≡ n → has l n ≡ true
 unfolding first-unmet
 among [] n p h = absurd (omega arith)
-among (r ∷ l) n p h = among-next (r .met) (r .number) n l (among l n p) h
+among (r ∷ l) n p h = among-next (r .met) (r .refusal) n l (among l n p) h
 
 pub absent : (l : List Rule) (n : ℕ) → 0 < n → has l n ≡ false → first-unmet l ≡ n → ⊥
 absent l n p h e = false≢true (sym h ∙ among l n p e)
@@ -140,7 +140,7 @@ absent l n p h e = false≢true (sym h ∙ among l n p e)
 -- whether every rule's number is below m
 abbrev pub below : ℕ → List Rule → Bool
 below m [] = true
-below m (r ∷ l) = ltb (r .number) m && below m l
+below m (r ∷ l) = ltb (r .refusal) m && below m l
 
 below-next : (met : Bool) (k m : ℕ) (l : List Rule) → k < m → first-unmet l < m → cond met (first-unmet l) k < m
 below-next true k m l h g = g
@@ -150,5 +150,5 @@ pub first-below : (m : ℕ) (l : List Rule) → 0 < m → below m l ≡ true →
 unfolding first-unmet
 first-below m [] p h = p
 first-below m (r ∷ l) p h =
-    let q = both-true (ltb (r .number) m) (below m l) h in
-    below-next (r .met) (r .number) m l (ltb-true (r .number) m (q .0)) (first-below m l p (q .1))
+    let q = both-true (ltb (r .refusal) m) (below m l) h in
+    below-next (r .met) (r .refusal) m l (ltb-true (r .refusal) m (q .0)) (first-below m l p (q .1))

@@ -11,7 +11,7 @@ use lib.Dec.{leb, eqb}
 use lib.ListN.{length, getD, length-append, List·getD-append}
 use lib.Seq.{getD-append-add}
 use Rattle.records.specs.Rules.{Rule, _unless_, first-unmet}
-use Rattle.records.specs.Format.{u16, u32, place, record-rules, records-rules, layout-rules}
+use Rattle.records.specs.Format.{u16, u32, record-place, record-rules, records-rules, layout-rules}
 use Rattle.records.proofs.Tests.{absurd}
 use Rattle.records.proofs.Chain.{apart, skipped, stopped}
 use Rattle.records.proofs.Records.{place-next, place-most, record-numbered, six-records, seven-records}
@@ -19,7 +19,7 @@ use Rattle.records.proofs.Alike.{SameBytes, SameRecord, u16-same, place
 
 -- the rules of what stands behind the sixth record, judged by itself
 abbrev pub seventh-rules : List ℕ → List Rule
-seventh-rules t = record-rules t 0 6 ++ (5 unless eqb (place t 1) (length t) ∷ [])
+seventh-rules t = record-rules t 0 6 ++ (5 unless eqb (record-place t 1) (length t) ∷ [])
 
 leb-shift : (a x y : ℕ) → leb (a + x) (a + y) ≡ leb x y
 leb-shift a x y = shifted (decLe x y)
@@ -52,21 +52,21 @@ module _ (s t : List ℕ) where
   same-bytes : SameBytes s (s ++ t) 0 (length s)
   same-bytes i _ h = sym (List·getD-append s t 0 i h)
 
-  module _ (six : place s 6 ≡ length s) where
-    place-inside : (k n : ℕ) → k + n ≡ 6 → place s k ≤ length s
-    place-inside k n e = omega (arith, six, subst (λ (m : ℕ). place s k ≤ place s m) e (place-most s k n))
+  module _ (six : record-place s 6 ≡ length s) where
+    place-inside : (k n : ℕ) → k + n ≡ 6 → record-place s k ≤ length s
+    place-inside k n e = omega (arith, six, subst (λ (m : ℕ). record-place s k ≤ record-place s m) e (place-most s k n))
 
-    pub place-kept : (k n : ℕ) → k + n ≡ 6 → place s k ≡ place (s ++ t) k
+    pub place-kept : (k n : ℕ) → k + n ≡ 6 → record-place s k ≡ record-place (s ++ t) k
     place-kept k n e = place-same s (s ++ t) (length s) same-bytes k (place-inside k n e)
 
     pub record-kept : (k n : ℕ) → k + suc n ≡ 6 → SameRecord s (s ++ t) k
     record-kept k n e = record-same s (s ++ t) (length s) same-bytes k (place-inside (k + 1) n (omega (arith, e)))
 
     -- each of the six records is judged alike
-    rules-kept : (k n : ℕ) → k + suc n ≡ 6 → record-rules (s ++ t) (place (s ++ t) k) k ≡ record-rules s (place s k) k
+    rules-kept : (k n : ℕ) → k + suc n ≡ 6 → record-rules (s ++ t) (record-place (s ++ t) k) k ≡ record-rules s (record-place s k) k
     unfolding record-rules
     rules-kept k n e =
-        let a = place s k in
+        let a = record-place s k in
         let inside = place-inside (k + 1) n (omega (arith, e)) in
         let next = place-next s k in
         let all : length (s ++ t) ≡ length s + length t = length-append s t in
@@ -87,38 +87,38 @@ module _ (s t : List ℕ) where
     unfolding records-rules
     passed-from zero k e h = let last : k ≡ 6 = omega (arith, e) in rw last refl
     passed-from (suc n) k e h =
-        let p = apart (records-rules s n (suc k)) (record-rules s (place s k) k) (record-numbered s k) h in
-        rw (rules-kept k n e) (skipped (records-rules (s ++ t) (suc n) (suc k)) (record-rules s (place s k) k) (record-numbered s k) (p .0))
+        let p = apart (records-rules s n (suc k)) (record-rules s (record-place s k) k) (record-numbered s k) h in
+        rw (rules-kept k n e) (skipped (records-rules (s ++ t) (suc n) (suc k)) (record-rules s (record-place s k) k) (record-numbered s k) (p .0))
         ∙ passed-from n (suc k) (omega (arith, e)) (p .1)
 
     refused-next : (n k : ℕ) → k + suc n ≡ 6 → (first-unmet (records-rules s (suc n) k) ≡ 0 → ⊥)
         → ((first-unmet (records-rules s n (suc k)) ≡ 0 → ⊥) → first-unmet (records-rules (s ++ t) (suc n) (suc k)) ≡ first-unmet (records-rules s n (suc k)))
-        → Dec (first-unmet (record-rules s (place s k) k) ≤ 0) → first-unmet (records-rules (s ++ t) (suc (suc n)) k) ≡ first-unmet (records-rules s (suc n) k)
+        → Dec (first-unmet (record-rules s (record-place s k) k) ≤ 0) → first-unmet (records-rules (s ++ t) (suc (suc n)) k) ≡ first-unmet (records-rules s (suc n) k)
     unfolding records-rules
     refused-next n k e h rest (yes z) =
-        let met : first-unmet (record-rules s (place s k) k) ≡ 0 = omega (arith, z) in
-        let here = skipped (records-rules s n (suc k)) (record-rules s (place s k) k) (record-numbered s k) met in
-        rw (rules-kept k n e) (skipped (records-rules (s ++ t) (suc n) (suc k)) (record-rules s (place s k) k) (record-numbered s k) met)
+        let met : first-unmet (record-rules s (record-place s k) k) ≡ 0 = omega (arith, z) in
+        let here = skipped (records-rules s n (suc k)) (record-rules s (record-place s k) k) (record-numbered s k) met in
+        rw (rules-kept k n e) (skipped (records-rules (s ++ t) (suc n) (suc k)) (record-rules s (record-place s k) k) (record-numbered s k) met)
         ∙ rest (λ o. h (here ∙ o))
         ∙ sym here
     refused-next n k e h rest (no z) =
-        let unmet : first-unmet (record-rules s (place s k) k) ≡ 0 → ⊥ = λ o. z (omega (arith, o)) in
-        rw (rules-kept k n e) (stopped (records-rules (s ++ t) (suc n) (suc k)) (record-rules s (place s k) k) unmet)
-        ∙ sym (stopped (records-rules s n (suc k)) (record-rules s (place s k) k) unmet)
+        let unmet : first-unmet (record-rules s (record-place s k) k) ≡ 0 → ⊥ = λ o. z (omega (arith, o)) in
+        rw (rules-kept k n e) (stopped (records-rules (s ++ t) (suc n) (suc k)) (record-rules s (record-place s k) k) unmet)
+        ∙ sym (stopped (records-rules s n (suc k)) (record-rules s (record-place s k) k) unmet)
 
     refused-from : (n k : ℕ) → k + n ≡ 6 → (first-unmet (records-rules s n k) ≡ 0 → ⊥)
         → first-unmet (records-rules (s ++ t) (suc n) k) ≡ first-unmet (records-rules s n k)
     unfolding records-rules first-unmet
     refused-from zero k e h =
         let last : k ≡ 6 = omega (arith, e) in
-        absurd (h (simp (eq-eqb (place s k) (length s) (ap (place s) last ∙ six))))
-    refused-from (suc n) k e h = refused-next n k e h (refused-from n (suc k) (omega (arith, e))) (decLe (first-unmet (record-rules s (place s k) k)) 0)
+        absurd (h (simp (eq-eqb (record-place s k) (length s) (ap (record-place s) last ∙ six))))
+    refused-from (suc n) k e h = refused-next n k e h (refused-from n (suc k) (omega (arith, e))) (decLe (first-unmet (record-rules s (record-place s k) k)) 0)
 
     tail-judged : first-unmet (records-rules (s ++ t) 1 6) ≡ first-unmet (seventh-rules t)
-    unfolding records-rules record-rules place
+    unfolding records-rules record-rules record-place
     tail-judged =
         let none : length s + 0 ≡ length s = omega arith in
-        let at : place (s ++ t) 6 ≡ length s = sym (place-kept 6 0 refl) ∙ six in
+        let at : record-place (s ++ t) 6 ≡ length s = sym (place-kept 6 0 refl) ∙ six in
         let size : u16 (s ++ t) (length s) ≡ u16 t 0 = rw none at (u16-behind 0) in
         let end : length s + 4 + u16 t 0 ≡ length s + (4 + u16 t 0) = omega arith in
         rw (
@@ -149,7 +149,7 @@ module _ (s t : List ℕ) where
       unfolding layout-rules first-unmet
       rules-seven =
           let all : length (s ++ t) ≡ length s + length t = length-append s t in
-          let at : place (s ++ t) 6 ≡ length s = sym (place-kept 6 0 refl) ∙ six in
+          let at : record-place (s ++ t) 6 ≡ length s = sym (place-kept 6 0 refl) ∙ six in
           rw (seven-records (s ++ t) (λ e. omega (arith, e, all, at, more)), le-leb (length (s ++ t)) 1024 (omega (arith, all, short))) refl
 
       pub followed-passed : first-unmet (layout-rules s) ≡ 0 → first-unmet (layout-rules (s ++ t)) ≡ first-unmet (seventh-rules t)

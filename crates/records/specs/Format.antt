@@ -30,22 +30,22 @@ numbers read step at zero = []
 numbers read step at (suc n) = read at ∷ numbers read step (at + step) n
 
 -- where record k begins, counted from 0: a two-byte payload length, a two-byte kind, the payload
-unfoldable pub place : List ℕ → ℕ → ℕ
-place s zero = 0
-place s (suc k) = place s k + 4 + u16 s (place s k)
+unfoldable pub record-place : List ℕ → ℕ → ℕ
+record-place s zero = 0
+record-place s (suc k) = record-place s k + 4 + u16 s (record-place s k)
 
 unfoldable pub payload-length : List ℕ → ℕ → ℕ
-payload-length s k = u16 s (place s k)
+payload-length s k = u16 s (record-place s k)
 
 unfoldable pub kind : List ℕ → ℕ → ℕ
-kind s k = u16 s (place s k + 2)
+kind s k = u16 s (record-place s k + 2)
 
 unfoldable pub payload : List ℕ → ℕ → ℕ
-payload s k = place s k + 4
+payload s k = record-place s k + 4
 
 -- the kind due: k + 2; the section's is 1 or 2
-abbrev pub due : ℕ → ℕ → Bool
-due k t = eqb t (k + 2) || (eqb k 0 && eqb t 1)
+abbrev pub kind-due : ℕ → ℕ → Bool
+kind-due k t = eqb t (k + 2) || (eqb k 0 && eqb t 1)
 
 -- by kind, 1 to 8 (the entry before them is no kind): a payload is of step, 2 step, .. up to most bytes; 1 to 24 strakes of 2, 1 to 200 depths of 4
 abbrev pub step-of : ℕ → ℕ
@@ -62,19 +62,19 @@ allowed t n = within (step-of t) (most-of t) n && eqb (n % step-of t) 0
 unfoldable pub record-rules : List ℕ → ℕ → ℕ → List Rule
 record-rules s at k =
     2 unless leb (at + 4) (length s)
-    ∷ 3 unless due k (u16 s (at + 2))
+    ∷ 3 unless kind-due k (u16 s (at + 2))
     ∷ 4 unless allowed (u16 s (at + 2)) (u16 s at)
     ∷ 2 unless leb (at + 4 + u16 s at) (length s)
     ∷ []
 
 -- n records in order, from record k on; then nothing may be left over
 unfoldable pub records-rules : List ℕ → ℕ → ℕ → List Rule
-records-rules s zero k = 5 unless eqb (place s k) (length s) ∷ []
-records-rules s (suc n) k = record-rules s (place s k) k ++ records-rules s n (suc k)
+records-rules s zero k = 5 unless eqb (record-place s k) (length s) ∷ []
+records-rules s (suc n) k = record-rules s (record-place s k) k ++ records-rules s n (suc k)
 
 -- six records, and a seventh where bytes follow the sixth
 unfoldable pub record-count : List ℕ → ℕ
-record-count s = cond (eqb (place s 6) (length s)) 6 7
+record-count s = cond (eqb (record-place s 6) (length s)) 6 7
 
 -- at most 1,024 bytes, then the records
 unfoldable pub layout-rules : List ℕ → List Rule

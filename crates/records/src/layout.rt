@@ -2,7 +2,7 @@
 ghost use mathlib.Core.Path.{_≡_};
 ghost use lib.ListN.{length, getD};
 ghost use Rattle.records.specs.Rules.{first-unmet};
-ghost use Rattle.records.specs.Format.{place, layout-rules};
+ghost use Rattle.records.specs.Format.{record-place, layout-rules};
 ghost use Rattle.records.specs.program.Reader.{Stands, Located, Walked, Passed, Settled};
 use crate::reader::Record;
 use crate::reader::behind;
@@ -19,7 +19,7 @@ struct Verdict {
 
 // Rules 2 to 5 of record k; the place behind it is noted. The last is a refused record, the sixth where it ends the sheet, or the seventh.
 fn judge(sheet: &[u8], found: Record, k: usize, places: &mut [usize; 7]) -> Verdict
-    requires { ⌜ Walked (now sheet) k (now places) × Stands (now sheet) (place (now sheet) k) found ⌝ }
+    requires { ⌜ Walked (now sheet) k (now places) × Stands (now sheet) (record-place (now sheet) k) found ⌝ }
     ensures { λ r. ⌜ Passed (now (sheet .entry)) k r (now (places .exit)) ⌝ }
 {
     let refused = record_refusal(sheet, found, k);

@@ -2,7 +2,7 @@
 ghost use mathlib.Core.Path.{_≡_};
 ghost use Prim.Native.Nat.{_<_};
 ghost use Rattle.records.specs.Rules.{first-unmet};
-ghost use Rattle.records.specs.Format.{due, allowed, record-rules};
+ghost use Rattle.records.specs.Format.{kind-due, allowed, record-rules};
 ghost use Rattle.records.specs.program.Reader.{Stands};
 use crate::reader::Record;
 use crate::reader::record_end;
@@ -10,7 +10,7 @@ use crate::reader::record_end;
 // Whether the kind is the one due for record k.
 fn kind_due(k: usize, kind: u64) -> bool
     requires { ⌜ k < 7 ⌝ }
-    ensures { λ r. ⌜ r ≡ due k kind ⌝ }
+    ensures { λ r. ⌜ r ≡ kind-due k kind ⌝ }
 {
     (kind == k as u64 + 2) | ((k == 0) & (kind == 1))
 }

@@ -32,7 +32,7 @@ use Rattle.sheet.proofs.Layouts.{by-count, layout-numbered}
 -- a chain without the rules of one number
 abbrev pub less : ℕ → List Rule → List Rule
 less n [] = []
-less n (r ∷ l) = cond (eqb (r .number) n) (less n l) (r ∷ less n l)
+less n (r ∷ l) = cond (eqb (r .refusal) n) (less n l) (r ∷ less n l)
 
 module _ (s : List ℕ) where
   abbrev six : Rule

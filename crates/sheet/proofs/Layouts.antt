@@ -11,7 +11,7 @@ use borrow.Author.Tests.{leb-true, eqb-true, le-leb, eq-eqb}
 use lib.Dec.{leb, eqb}
 use lib.ListN.{length}
 use Rattle.records.specs.Rules.{within, Rule, _unless_, first-unmet}
-use Rattle.records.specs.Format.{u16, place, kind, payload-length, due, step-of, most-of, allowed, record-rules, records-rules, record-count, layout-rules}
+use Rattle.records.specs.Format.{u16, record-place, kind, payload-length, kind-due, step-of, most-of, allowed, record-rules, records-rules, record-count, layout-rules}
 use Rattle.description.specs.Silo.{strake-count, depth-count}
 use Rattle.sheet.specs.Accepted.{Layout}
 use Rattle.records.proofs.Tests.{both-true, within-true, true-within, absurd}
@@ -31,21 +31,21 @@ range-allowed t n l h d = simp (true-within (step-of t) (most-of t) n l h, eq-eq
 
 -- what record k has when none of its rules refuses
 record Fine (s : List ℕ) (k : ℕ) : Type 0 where
-  pub due-kind : due k (kind s k) ≡ true
+  pub due-kind : kind-due k (kind s k) ≡ true
   pub due-length : allowed (kind s k) (payload-length s k) ≡ true
-  pub inside : place s k + 4 + payload-length s k ≤ length s
+  pub inside : record-place s k + 4 + payload-length s k ≤ length s
 
-fine : (s : List ℕ) (k : ℕ) → first-unmet (record-rules s (place s k) k) ≡ 0 → Fine s k
+fine : (s : List ℕ) (k : ℕ) → first-unmet (record-rules s (record-place s k) k) ≡ 0 → Fine s k
 unfolding record-rules kind payload-length
 fine s k h =
-    let a = place s k in
+    let a = record-place s k in
     let m : (i : ℕ) → met-at (record-rules s a k) i ≡ true = met (record-rules s a k) refl h in
     record { due-kind = m 1; due-length = m 2; inside = leb-true (a + 4 + u16 s a) (length s) (m 3) }
 
-unrefused : (s : List ℕ) (k : ℕ) → Fine s k → first-unmet (record-rules s (place s k) k) ≡ 0
+unrefused : (s : List ℕ) (k : ℕ) → Fine s k → first-unmet (record-rules s (record-place s k) k) ≡ 0
 unfolding first-unmet record-rules kind payload-length
 unrefused s k f =
-    let a = place s k in
+    let a = record-place s k in
     let i = f .inside in
     let h : a + 4 ≤ length s = omega arith in
     simp (le-leb (a + 4) (length s) h, f .due-kind, f .due-length, le-leb (a + 4 + u16 s a) (length s) i)
@@ -55,25 +55,25 @@ or-later s k j (yes l) h f g = g l
 or-later s k j (no l) h f g = let e : k ≡ j = omega arith in subst (Fine s) e f
 
 -- the n records from k on, and nothing behind them
-records-fine : (s : List ℕ) (n k : ℕ) → first-unmet (records-rules s n k) ≡ 0 → ((j : ℕ) → k ≤ j → j < k + n → Fine s j) × (place s (k + n) ≡ length s)
+records-fine : (s : List ℕ) (n k : ℕ) → first-unmet (records-rules s n k) ≡ 0 → ((j : ℕ) → k ≤ j → j < k + n → Fine s j) × (record-place s (k + n) ≡ length s)
 unfolding records-rules
 records-fine s zero k h =
     let e : k + 0 ≡ k = omega arith in
-    (λ j l m. absurd (omega arith), rw e (eqb-true (place s k) (length s) (met (5 unless eqb (place s k) (length s) ∷ []) refl h 0)))
+    (λ j l m. absurd (omega arith), rw e (eqb-true (record-place s k) (length s) (met (5 unless eqb (record-place s k) (length s) ∷ []) refl h 0)))
 records-fine s (suc n) k h =
-    let p = apart (records-rules s n (suc k)) (record-rules s (place s k) k) (record-numbered s k) h in
+    let p = apart (records-rules s n (suc k)) (record-rules s (record-place s k) k) (record-numbered s k) h in
     let rest = records-fine s n (suc k) (p .1) in
     let e : k + suc n ≡ suc k + n = omega arith in
     (λ j l m. or-later s k j (decLe (suc k) j) l (fine s k (p .0)) (λ g. rest .0 j g (omega arith)), rw e (rest .1))
 
-fine-records : (s : List ℕ) (n k : ℕ) → ((j : ℕ) → k ≤ j → j < k + n → Fine s j) → place s (k + n) ≡ length s → first-unmet (records-rules s n k) ≡ 0
+fine-records : (s : List ℕ) (n k : ℕ) → ((j : ℕ) → k ≤ j → j < k + n → Fine s j) → record-place s (k + n) ≡ length s → first-unmet (records-rules s n k) ≡ 0
 unfolding records-rules first-unmet
 fine-records s zero k f e =
     let i : k + 0 ≡ k = omega arith in
-    simp (eq-eqb (place s k) (length s) (rw i at e))
+    simp (eq-eqb (record-place s k) (length s) (rw i at e))
 fine-records s (suc n) k f e =
     let i : k + suc n ≡ suc k + n = omega arith in
-    skipped (records-rules s n (suc k)) (record-rules s (place s k) k) (record-numbered s k) (unrefused s k (f k (omega arith) (omega arith)))
+    skipped (records-rules s n (suc k)) (record-rules s (record-place s k) k) (record-numbered s k) (unrefused s k (f k (omega arith) (omega arith)))
     ∙ fine-records s n (suc k) (λ j l m. f j (omega arith) (omega arith)) (rw i at e)
 
 -- the kinds in order, and the bounds that a record's kind sets for its length
@@ -136,13 +136,13 @@ layout-of s h =
       ends = rw none at (r .1);
     }
 
-due-later : (k : ℕ) → due k (k + 2) ≡ true
+due-later : (k : ℕ) → kind-due k (k + 2) ≡ true
 due-later k = simp (eq-eqb (k + 2) (k + 2) refl)
 
-fine-later : (s : List ℕ) (k t : ℕ) → kind s k ≡ k + 2 → k + 2 ≡ t → step-of t ≤ payload-length s k → payload-length s k ≤ most-of t → payload-length s k % step-of t ≡ 0 → place s k + 4 + payload-length s k ≤ length s → Fine s k
+fine-later : (s : List ℕ) (k t : ℕ) → kind s k ≡ k + 2 → k + 2 ≡ t → step-of t ≤ payload-length s k → payload-length s k ≤ most-of t → payload-length s k % step-of t ≡ 0 → record-place s k + 4 + payload-length s k ≤ length s → Fine s k
 fine-later s k t e d l h m i =
     record {
-      due-kind = ap (due k) e ∙ due-later k;
+      due-kind = ap (kind-due k) e ∙ due-later k;
       due-length = ap (λ u. allowed u (payload-length s k)) (e ∙ d) ∙ range-allowed t (payload-length s k) l h m;
       inside = i;
     }
@@ -179,7 +179,7 @@ unfolding first-unmet layout-rules strake-count depth-count
 of-layout s a =
     let n = six-least s in
     let k : (k : ℕ) → 0 < k → k < record-count s → kind s k ≡ k + 2 = a .other-kinds in
-    let i : (k : ℕ) → k < record-count s → place s k + 4 + payload-length s k ≤ length s = a .present in
+    let i : (k : ℕ) → k < record-count s → record-place s k + 4 + payload-length s k ≤ length s = a .present in
     let n1 = a .product-length in
     let n2 = a .filling-length in
     let n3 = a .bottom-length in

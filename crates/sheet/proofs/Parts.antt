@@ -10,7 +10,7 @@ use native.Mathlib.Decide.{decLe}
 use lib.Dec.{leb}
 use native.Mathlib.Omega.{arith}
 use Rattle.records.specs.Rules.{first-unmet}
-use Rattle.records.specs.Format.{u16, u32, place, kind, payload, payload-length, layout-rules}
+use Rattle.records.specs.Format.{u16, u32, record-place, kind, payload, payload-length, layout-rules}
 use Rattle.records.proofs.Records.{place-next}
 use Rattle.records.proofs.Alike.{SameBytes, SameRecord, u16-same, u32-same, two-in, four-in, payload-length-same, kind-same, pair-same, list-same}
 use Rattle.description.specs.Silo.{section-of, product-sent, eccentricities-of, bottom-of, strake-count, strakes-of, depth-count, depths-of, V-of, headroom-of, h-of}
@@ -20,11 +20,11 @@ use Rattle.sheet.proofs.Layouts.{layout-of}
 use Rattle.sheet.proofs.Chains.{records-refused, values-refused, length-asked, at-brim}
 
 -- γ, Ks and μ stand in the twelve bytes of the second record before C0
-pub means-same : (s s' : List ℕ) → place s 1 ≡ place s' 1 → SameBytes s s' (place s 1) (place s 1 + 12)
+pub means-same : (s s' : List ℕ) → record-place s 1 ≡ record-place s' 1 → SameBytes s s' (record-place s 1) (record-place s 1 + 12)
     → (product-sent s .weight ≡ product-sent s' .weight) × ((product-sent s .ratio ≡ product-sent s' .ratio) × (product-sent s .friction ≡ product-sent s' .friction))
 unfolding product-sent payload
 means-same s s' there same =
-    let low = place s 1 in
+    let low = record-place s 1 in
     let two : (n : ℕ) → low ≤ n → n + 2 ≤ low + 12 → u16 s n ≡ u16 s' n = u16-same s s' low (low + 12) same in (
       u32-same s s' low (low + 12) same (low + 4) (omega arith) (omega arith) ∙ ap (λ (p : ℕ). u32 s' (p + 4)) there,
       (
@@ -39,7 +39,7 @@ module _ (s s' : List ℕ) (l : Layout s) where
     unfolding section-of payload payload-length
     circle-same k =
         let end = place-next s 0 in
-        let a = four-in s s' 0 r (place s 0 + 4) (omega arith) (omega (arith, end, l .circle-length k)) in
+        let a = four-in s s' 0 r (record-place s 0 + 4) (omega arith) (omega (arith, end, l .circle-length k)) in
         rw (sym (kind-same s s' 0 r), k, a, r .there) refl
 
     rectangle-same : kind s 0 ≡ 2 → section-of s ≡ section-of s'
@@ -54,9 +54,9 @@ module _ (s s' : List ℕ) (l : Layout s) where
   pub product-same : SameRecord s s' 1 → product-sent s ≡ product-sent s'
   unfolding product-sent payload payload-length
   product-same r =
-      let end : place s 2 ≡ place s 1 + 14 = omega (arith, place-next s 1, l .product-length) in
+      let end : record-place s 2 ≡ record-place s 1 + 14 = omega (arith, place-next s 1, l .product-length) in
       let m = means-same s s' (r .there) (λ i low high. r .bytes i low (omega (arith, high, end))) in
-      let C0 = two-in s s' 1 r (place s 1 + 4 + 8) (omega arith) (omega (arith, end)) ∙ ap (λ (p : ℕ). u16 s' (p + 4 + 8)) (r .there) in
+      let C0 = two-in s s' 1 r (record-place s 1 + 4 + 8) (omega arith) (omega (arith, end)) ∙ ap (λ (p : ℕ). u16 s' (p + 4 + 8)) (r .there) in
       λ i. record { weight = m .0 i; ratio = m .1 .0 i; friction = m .1 .1 i; factor = C0 i }
 
   eccentricities-same : SameRecord s s' 2 → eccentricities-of s ≡ eccentricities-of s'

@@ -13,7 +13,7 @@ use Rattle.janssen.specs.Filling.{grain-of}
 use Rattle.janssen.specs.program.Range.{Within, InRange}
 use Rattle.description.specs.declared.Eccentricities.{Eccentricities}
 use Rattle.description.specs.declared.Bottom.{Bottom}
-use Rattle.records.specs.Format.{kind, payload-length, place, record-count}
+use Rattle.records.specs.Format.{kind, payload-length, record-place, record-count}
 use Rattle.description.specs.Silo.{section-of, product-sent, eccentricities-of, bottom-of, strakes-of, depths-of, strake-count, depth-count, V-of, headroom-of, h-of}
 
 -- six records or seven, each with its payload inside the sheet, and nothing behind the last
@@ -21,7 +21,7 @@ pub record Layout (s : List ℕ) : Type 0 where
   -- 1
   pub size : length s ≤ 1024
   -- 2
-  pub present : (k : ℕ) → k < record-count s → place s k + 4 + payload-length s k ≤ length s
+  pub present : (k : ℕ) → k < record-count s → record-place s k + 4 + payload-length s k ≤ length s
   -- 3
   pub section-kind : (kind s 0 ≡ 1) ⊎ (kind s 0 ≡ 2)
   pub other-kinds : (k : ℕ) → 0 < k → k < record-count s → kind s k ≡ k + 2
@@ -39,7 +39,7 @@ pub record Layout (s : List ℕ) : Type 0 where
   pub depths-few : depth-count s ≤ 200
   pub headroom-length : record-count s ≡ 7 → payload-length s 6 ≡ 4
   -- 5
-  pub ends : place s (record-count s) ≡ length s
+  pub ends : record-place s (record-count s) ≡ length s
 
 -- 9: flat, or a hopper
 pub record Hopper (dc : ℕ) (b : Bottom) : Type 0 where

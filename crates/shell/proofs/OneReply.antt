@@ -14,7 +14,7 @@ use Rattle.fraction.proofs.Up.{up-unique}
 use Rattle.cosine.specs.Cosine.{CosineTable}
 use Rattle.janssen.specs.Section.{d-c}
 use Rattle.janssen.specs.Numbers.{FillingNumbers}
-use Rattle.records.specs.Format.{place}
+use Rattle.records.specs.Format.{record-place}
 use Rattle.records.specs.Rules.{_unless_, first-unmet}
 use Rattle.records.proofs.Fills.{fills-alike}
 use Rattle.records.proofs.Chain.{chains-alike}
@@ -85,7 +85,7 @@ module _ (s s' : List ℕ) (z : ℕ) (alike : Alike s s') where
 
 module _ (f : List ℕ → FillingNumbers) (t : List ℕ) (c : ℕ → ℕ) (s : List ℕ) (z : ℕ) (lent left left' : List ℤ) (r r' : ℕ) where
   -- a sheet of six records, and a headroom of 0 behind it
-  pub level-reply : place s 6 ≡ length s → length s + 8 ≤ 1024 → ShellPromise f t c s z lent r left
+  pub level-reply : record-place s 6 ≡ length s → length s + 8 ≤ 1024 → ShellPromise f t c s z lent r left
       → ShellPromise f t c (s ++ level) z lent r' left' → (r ≡ r') × (left ≡ left')
   level-reply six short a b = one-reply s (s ++ level) z (level-alike s six short) f t c lent left left' r r' a b
 

@@ -4,7 +4,7 @@ use mathlib.Core.List.{List}
 use mathlib.Core.Path.{_≡_, _∙_, ap, subst}
 use native.Mathlib.Omega.{arith}
 use lib.ListN.{length, getD}
-use Rattle.records.specs.Format.{place, payload}
+use Rattle.records.specs.Format.{record-place, payload}
 use Rattle.records.specs.program.Reader.{Located}
 use Rattle.description.specs.Silo.{depth-count}
 use Rattle.description.specs.program.Described.{wall-of}
@@ -15,10 +15,10 @@ use Rattle.description.proofs.describe.Statement.{statement}
 use Rattle.description.proofs.describe.Tie as tie
 
 module _ (s places : List ℕ) (l : Located s places) (short : length s ≤ 1024) where
-  stands : (k : ℕ) → k ≤ 6 → (getD places k 0 ≡ place s k) × (getD places k 0 ≤ 1024)
+  stands : (k : ℕ) → k ≤ 6 → (getD places k 0 ≡ record-place s k) × (getD places k 0 ≤ 1024)
   stands k h =
       let e : k + (6 - k) ≡ 6 = omega (arith, h) in
-      let most : place s k ≤ place s 6 = subst (λ (n : ℕ). place s k ≤ place s n) e (place-most s k (6 - k)) in
+      let most : record-place s k ≤ record-place s 6 = subst (λ (n : ℕ). record-place s k ≤ record-place s n) e (place-most s k (6 - k)) in
       (l .located k h, omega (arith, l .located k h, most, l .inside, short))
 
 element-copy-out-last : tie.Need-element-copy-out-last

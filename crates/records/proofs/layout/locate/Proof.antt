@@ -50,7 +50,7 @@ use denote.Triple.Table.{entered, cited}
 use denote.Triple.Walked.{says, needs, Stays, stay-dropped, stay-ref, goes-dropped, goes-ref, walkOf, ends-at, walked, walk-meets}
 use denote.Exit.{yes}
 use Rattle.records.specs.Rules.{first-unmet}
-use Rattle.records.specs.Format.{place, records-rules}
+use Rattle.records.specs.Format.{record-place, records-rules}
 use Rattle.records.specs.declared.reader.Reader.{Reader}
 use Rattle.records.specs.declared.reader.Record.{Record}
 use Rattle.records.specs.declared.layout.Verdict.{Verdict}
@@ -146,7 +146,7 @@ module _ {M : Type 1} (𝓤 : URA M) (H : Heap 𝓤) (A : Atoms 𝓤) (mem : Mem
     Places α δ zs = MutRef (named 1) α seven .own (x δ zs) (vptr b o ∷ [])
 
     abbrev reader : ℕ → Reader
-    reader k = record { sheet = s; at = place (now s) k }
+    reader k = record { sheet = s; at = record-place (now s) k }
 
     sheet-twice : ent 𝓤 (sem 𝓤 H A Sheet) (sep 𝓤 (sem 𝓤 H A Sheet) (sem 𝓤 H A Sheet))
     sheet-twice = shr-slice-copy 𝓤 H A W (named 0) κ u8 .twice s (slice s ∷ [])
@@ -173,13 +173,13 @@ module _ {M : Type 1} (𝓤 : URA M) (H : Heap 𝓤) (A : Atoms 𝓤) (mem : Mem
     abbrev to-current : ℕ → Current .Ghost
     to-current k = (((κ, tt), (q, tt), tt, (reader k, tt), (mach (reader k) ∷ [], tt)), tt)
 
-    goes-current : (k : ℕ) → place (now s) k < 1000000 → ent 𝓤 (⋆ 𝓤 H A (‵ Sheet ∷ Token ∷ [])) (sep 𝓤 (Current .pre (to-current k)) (sem 𝓤 H A Sheet))
+    goes-current : (k : ℕ) → record-place (now s) k < 1000000 → ent 𝓤 (⋆ 𝓤 H A (‵ Sheet ∷ Token ∷ [])) (sep 𝓤 (Current .pre (to-current k)) (sem 𝓤 H A Sheet))
     goes-current k small =
         qed W (‵ Sheet ∷ Token ∷ []) ∵ use1 W (‵ Sheet ⊛ ‵ Sheet) sheet-twice $ split ! $ use1 W (‵ (Own 𝓤 H A W κ (reader k))) (reader-of 𝓤 H A W κ (reader k) (omega (arith, small))) $
         nothing ! $ move ! (1 ∷ 0 ∷ []) $ fjoin ! $ move ! (2 ∷ 0 ∷ []) $
         use2 W (raw (Current .pre (to-current k))) (qed W (Token ∷ ‵ (owns (B κ ∷ []) (reader k, tt) (mach (reader k) ∷ [], tt)) ∷ []) ∵ says ! small $ done !) $ frame ! $ done !
 
-    module _ (k : ℕ) (f : Record) (u : Val) (is : Is S.the-row f (u ∷ [])) (stands : Stands (now s) (place (now s) k) f) where
+    module _ (k : ℕ) (f : Record) (u : Val) (is : Is S.the-row f (u ∷ [])) (stands : Stands (now s) (record-place (now s) k) f) where
       -- the call of `judge`, places being lent again for the lifetime ν, under the name δ
       abbrev to-judge : ℕ → GName → List ℕ → Judge .Ghost
       to-judge ν δ zs = (((κ, (ν ∷ [], tt)), (q, (fullShare, tt)), tt, (s, (f, (k, (x δ zs, tt)))), (slice s ∷ [], (u ∷ [], (vint w64 k ∷ [], (vptr b o ∷ [], tt))))), tt)
@@ -199,7 +199,7 @@ module _ {M : Type 1} (𝓤 : URA M) (H : Heap 𝓤) (A : Atoms 𝓤) (mem : Mem
       abbrev to-behind : Behind .Ghost
       to-behind = (((κ, tt), (q, tt), tt, (reader k, (f, tt)), (mach (reader k) ∷ [], (u ∷ [], tt))), tt)
 
-      goes-behind : place (now s) k < 1000000 → ent 𝓤 (⋆ 𝓤 H A (‵ Sheet ∷ Token ∷ [])) (sep 𝓤 (Behind .pre to-behind) (sem 𝓤 H A Sheet))
+      goes-behind : record-place (now s) k < 1000000 → ent 𝓤 (⋆ 𝓤 H A (‵ Sheet ∷ Token ∷ [])) (sep 𝓤 (Behind .pre to-behind) (sem 𝓤 H A Sheet))
       goes-behind small =
           qed W (‵ Sheet ∷ Token ∷ []) ∵ use1 W (‵ Sheet ⊛ ‵ Sheet) sheet-twice $ split ! $ use1 W (‵ (Own 𝓤 H A W κ (reader k))) (reader-of 𝓤 H A W κ (reader k) (omega (arith, small))) $
           nothing ! $ owned ! S.the-row (Is S.the-row) (LL.makes S.the-type S′.the-plain 𝓤 H A) f (u ∷ []) is $ fjoin ! $ move ! (1 ∷ 0 ∷ []) $ fjoin ! $ move ! (2 ∷ 0 ∷ []) $
@@ -262,7 +262,7 @@ module _ {M : Type 1} (𝓤 : URA M) (H : Heap 𝓤) (A : Atoms 𝓤) (mem : Mem
           assigns ! (of-opd ! (load ! (from ! (stop !)) (look ! 18 refl))) (from ! (stop !)) (init ! 10 refl reader-typed) $
           use2 W (raw (Current .pre (to-current k)) ⊛ ‵ Sheet) (goes-current k small) $ split ! $
           calls-at ! fm Current known-current (to-current k) (and-then ! (load ! (from ! (stop !)) (look ! 10 refl)) (no-more !)) (λ u.
-          handed ! tt Token S.the-row (lasts current.ended (κ, tt) (reader k, tt)) (λ _. Stands (now s) (place (now s) k)) u (λ f _ stands. facts ! S.the-row (Is S.the-row) (shows 𝓤 H A S.the-row) f (u ∷ []) (λ is.
+          handed ! tt Token S.the-row (lasts current.ended (κ, tt) (reader k, tt)) (λ _. Stands (now s) (record-place (now s) k)) u (λ f _ stands. facts ! S.the-row (Is S.the-row) (shows 𝓤 H A S.the-row) f (u ∷ []) (λ is.
           -- [the token; what is left of the reader; sheet; places; its token; _10; …]
           land ! (from ! (stop !)) (init ! 15 refl (LL.lawful S.the-type S′.the-laws 𝓤 H A W .typed f _ is .0)) $ move ! (1 ∷ []) $ drop ! $
           assigns ! (addr ! (from ! (hop ! (look ! 20 refl) (stop !)))) (from ! (stop !)) (init ! 8 refl (tt, tt)) $
@@ -321,7 +321,7 @@ module _ {M : Type 1} (𝓤 : URA M) (H : Heap 𝓤) (A : Atoms 𝓤) (mem : Mem
           k-fits : k < 2 ^ 64
           k-fits = omega (arith, i .2 .there, seven-most (now s))
 
-          small : place (now s) k < 1000000
+          small : record-place (now s) k < 1000000
           small = omega (arith, i .2 .near, i .2 .there, seven-most (now s))
 
           reader-typed : Holds (hasTy (T′.mir erased) (mach (reader k))) × WT (mach (reader k))

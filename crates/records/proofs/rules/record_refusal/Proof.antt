@@ -9,7 +9,7 @@ use lib.ListN.{length, drop}
 use borrow.Author.Needs.{needs}
 use borrow.Author.Tests.{le-leb, lt-leb, not-true, not-false}
 use Rattle.records.specs.Rules.{Rule, _unless_, first-unmet}
-use Rattle.records.specs.Format.{due, allowed, record-rules}
+use Rattle.records.specs.Format.{kind-due, allowed, record-rules}
 use Rattle.records.specs.program.Reader.{Stands}
 use Rattle.records.specs.declared.reader.Record.{Record}
 use Rattle.records.proofs.Chain.{next, last}
@@ -25,7 +25,7 @@ use Rattle.records.proofs.reader.record_end.Reads as record-end-reads
 abbrev of-read : List ℕ → Record → ℕ → List Rule
 of-read s f k =
     2 unless leb (f .start) (length s)
-    ∷ 3 unless due k (f .kind)
+    ∷ 3 unless kind-due k (f .kind)
     ∷ 4 unless allowed (f .kind) (f .length)
     ∷ 2 unless leb (f .start + f .length) (length s)
     ∷ []
@@ -62,7 +62,7 @@ start-3 x = start-2 (x .before .before)
 header-there : (x : lts.Else1 calls reads.Pre reads.Post) → due-of (start-1 x) ≡ first-unmet (drop 1 (read (start-1 x)))
 header-there x = of-start (start-1 x) ∙ next (read (start-1 x)) 0 (le-leb _ _ (x .if1 .left))
 
-kind-is-due : (x : lts.Else2 calls reads.Pre reads.Post) → due (start-2 x .args .k) (start-2 x .args .found .kind) ≡ true
+kind-is-due : (x : lts.Else2 calls reads.Pre reads.Post) → kind-due (start-2 x .args .k) (start-2 x .args .found .kind) ≡ true
 kind-is-due x = sym (x .before .kind-due .ensures) ∙ not-false _ (x .if2 .left)
 
 kind-right : (x : lts.Else2 calls reads.Pre reads.Post) → due-of (start-2 x) ≡ first-unmet (drop 2 (read (start-2 x)))
