@@ -22,7 +22,7 @@ pub data Load : Type 0 where
 abbrev pub eight : List Load
 eight = listed-depth ∷ p-hf ∷ p-wf ∷ p-vf ∷ P-w ∷ p-he ∷ p-we ∷ p-p ∷ []
 
--- the loads that are set by section, product and depth alone
+-- the filling loads, set by section, grain and depth alone: the filling pressures and P_w
 pub data FillingLoad : Load → Type 0 where
   of-p-hf : FillingLoad p-hf
   of-p-wf : FillingLoad p-wf

@@ -50,8 +50,8 @@ unfoldable pub depths-met : ℕ → ℕ → List ℕ → Bool
 depths-met top low [] = true
 depths-met top low (z ∷ l) = within low top z && depths-met top (z + 1) l
 
--- the rules of a sheet's values, in order. 20 is not tried where only a length or a count is told; 11 is of the listed depths and of one given beside the
--- sheet, which is at most V or is not; 17: g < V; 12: h < 10·d_c; 13 is retired (document 02, C-11)
+-- the rules of a sheet's values, in order, by two tests: where only a length or a count is told, 20 is not tried; 11 is of the listed depths and of one
+-- given beside the sheet, which is at most V or is not. 17: g < V; 12: h < 10·d_c; 13 is retired (document 02, C-11)
 unfoldable pub value-rules : Bool → Bool → List ℕ → List Rule
 value-rules told given s =
     6 unless sides-met (section-of s)
