@@ -40,7 +40,7 @@ lower-below {P} {q} {v} p band low =
     let b : 0 < P .bottom = pos-left _ _ (h .left) in
     let t : 0 < S n q .bottom = pos-right (v .bottom) _ (pos-right (P .bottom) _ (h .left)) in
     record {
-      left = low .proper;
+      left = pos-left (v .bottom) _ (pos-right (P .bottom) _ (h .left));
       right = omega arith;
       order =
           le-of-mul-le-mul-right {k = S n q .top * (P .bottom * P .bottom * S n q .bottom)}
@@ -56,7 +56,6 @@ lower-below {P} {q} {v} p band low =
 -- 0 is a lower fraction
 lower-zero : (P q : Fraction) → 0 < P .bottom → Lower P q (whole 0)
 lower-zero P q h = record {
-  proper = omega arith;
   below = (
     0,
     record {
@@ -79,7 +78,6 @@ lower-near P q p h n band = at (decLe 2 p)
 
     at : Dec (2 ≤ p) → Lower P q (whole (p - 2))
     at (yes two) = record {
-      proper = omega arith;
       below = (
         n,
         record {

@@ -5,7 +5,6 @@ use Rattle.exponential.specs.Series.{S}
 
 -- v is a lower fraction of the filling pressure P·(1 - e^(-q)): (P - v)·S_n ≥ P for some n
 pub record Lower (P q v : Fraction) : Type 0 where
-  pub proper : 0 < v .bottom
   pub below : (n : ℕ) × (P ⊕ v ⊗ S n q ⪯ P ⊗ S n q)
 
 -- a load is at or above every result of its unrounded formula F over lower fractions, and less than w above some such result

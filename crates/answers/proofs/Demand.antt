@@ -70,10 +70,10 @@ two-records s a = a .layout .present 1 (omega (arith, six-least s))
 
 -- section and product of two accepted sheets with equal first records
 module _ (s s' : List ℕ) (a : Measured s) (a' : Measured s') (e : SameSectionAndProduct s s') where
-  section-equal : section-of s ≡ section-of s'
+  pub section-equal : section-of s ≡ section-of s'
   section-equal = section-same s s' (a .layout) (first-record s s' (two-records s a) (two-records s' a') e)
 
-  product-equal : product-of s ≡ product-of s'
+  pub product-equal : product-of s ≡ product-of s'
   unfolding product-of
   product-equal = rw (product-same s s' (a .layout) (second-record s s' (two-records s a) (two-records s' a') e)) refl
 

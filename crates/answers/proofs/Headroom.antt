@@ -25,7 +25,7 @@ use Rattle.loads.specs.Load.{FillingLoad, load-depth, load-number}
 use Rattle.loads.specs.Load.Load.{p-vf}
 use Rattle.answers.specs.Length.{answers-length}
 use Rattle.answers.specs.Answers.{silo-of, depth, Filled}
-use Rattle.answers.specs.Order.{load-in}
+use Rattle.answers.specs.Order.{load-in, LeftFor}
 use Rattle.answers.specs.Claim.{SameSectionAndProduct, Claim}
 use Rattle.answers.specs.Promise.{Promise}
 use Rattle.answers.proofs.Places.{at-load}
@@ -97,12 +97,12 @@ module _ (s : List ℕ) (six : record-place s 6 ≡ length s) where
     level-record = one-call s (s ++ level) level-alike
 
 -- z - g, listed on an accepted sheet without headroom, beside z
-pub level-sheet : (f : FillingNumbers) (s s' list list' : List ℕ) → refusal-of s ≡ 0 → refusal-of s' ≡ 0 → Claim f s list → Claim f s' list'
+pub level-sheet : (f : FillingNumbers) (s s' list list' : List ℕ) → refusal-of s ≡ 0 → Claim f s list → LeftFor f s' list'
     → SameSectionAndProduct s s' → headroom-of s' ≡ 0 → (l : Load) → FillingLoad l → (i j : ℕ) → i < depth-count s → j < depth-count s' → depth s' j ≡ depth s i - headroom-of s
     → load-in s list l i ≡ load-in s' list' l j
 unfolding load-depth
-level-sheet f s s' list list' ok ok' a b same brim l o i j h k e =
-    lists-ordered f s s' list list' ok ok' a b same l o i j h k .same (omega (arith, e, brim))
+level-sheet f s s' list list' ok a b same brim l o i j h k e =
+    lists-ordered f s s' list list' ok a b same l o i j h k .same (omega (arith, e, brim))
 
 -- the pressure on floor and hopper is the one that the list has for z = V
 pub foot-listed : (f : FillingNumbers) (s list : List ℕ) → Filled f s list → (i : ℕ) → i < depth-count s → depth s i ≡ V-of s

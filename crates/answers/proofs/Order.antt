@@ -1,4 +1,5 @@
 -- What demand 3 says of the numbers in the lists, for any filling numbers f that meet it.
+--     depths-hold, strakes-hold, zeros   every number listed keeps its band or allowance, and nine zeros stand behind a flat floor
 --     judged, strakes-judged           by the depth below the grain's surface: every load but z itself, and p_he beside the strakes' numbers
 --     down, strakes-down               from one listed depth to a later one, and from one strake to a lower one, no number falls
 --     further-down, strakes-further-down   so a place further down, by z, never has the smaller number
@@ -6,13 +7,16 @@
 -- Each number is that of a load at a depth (`Filled`), and the claim orders those.
 -- Assumes nothing.
 use Prim.Native.Nat.{ℕ, zero, suc, _+_, _-_, _≤_, _<_}
-use mathlib.Core.Path.{_≡_, refl, ap, sym, subst}
+use mathlib.Core.Path.{_≡_, refl, ap, sym, subst, _∙_}
 use mathlib.Core.Logic.{_⊎_, inl, inr, ⊎-elim}
 use mathlib.Core.List.{List}
 use native.Mathlib.Nat.{add-zero, add-suc, le-antisymm}
 use native.Mathlib.Omega.{arith}
+use lib.ListN.{getD, getD-replicate}
+use Rattle.janssen.specs.Filling.{grain-of}
+use Rattle.janssen.specs.Filling.Kind.{horizontal, vertical, wall-friction}
 use Rattle.janssen.specs.Numbers.{FillingNumbers}
-use Rattle.description.specs.Silo.{depth-count, strake-count, strakes-of, edge-of, V-of}
+use Rattle.description.specs.Silo.{depth-count, strake-count, strakes-of, edge-of, V-of, headroom-of}
 use Rattle.description.proofs.Sums.{sum-under}
 use Rattle.sheet.specs.Refusal.{refusal-of}
 use Rattle.sheet.specs.Accepted.{Measured}
@@ -20,13 +24,16 @@ use Rattle.sheet.proofs.Acceptance.{accepted}
 use Rattle.sheet.proofs.Described.{edge-most}
 use Rattle.loads.specs.declared.Silo.{Silo}
 use Rattle.loads.specs.Load.{Load}
-use Rattle.loads.specs.Load.{FillingLoad, load-depth}
+use Rattle.loads.specs.Load.{FillingLoad, load-depth, load-number}
 use Rattle.loads.specs.Load.Load.{listed-depth, p-hf, p-wf, p-vf, P-w, p-he, p-we, p-p}
-use Rattle.loads.proofs.LoadLaws.{load-depth-rises}
-use Rattle.answers.specs.Answers.{silo-of, depth, strake-in}
+use Rattle.loads.specs.Load.FillingLoad.{of-p-hf, of-p-wf, of-p-vf, of-P-w}
+use Rattle.loads.specs.Holds.{Holds}
+use Rattle.loads.proofs.LoadLaws.{bottom-flat, load-depth-rises}
+use Rattle.answers.specs.Answers.{silo-of, depth, bottom-in, strake-in}
 use Rattle.answers.specs.Claim.{SameSectionAndProduct, Claim}
-use Rattle.answers.specs.Order.{rank, load-in, Ordered}
+use Rattle.answers.specs.Order.{rank, load-in, LeftFor, Ordered}
 use Rattle.answers.proofs.Places.{at-load}
+use Rattle.answers.proofs.Demand.{section-equal, product-equal}
 
 ordered-by : {x y n m : ℕ} → (x ≤ y → n ≤ m) → (y ≤ x → m ≤ n) → Ordered x y n m
 ordered-by up back = record { rises = up; falls = back; same = λ e. le-antisymm (up (omega arith)) (back (omega arith)) }
@@ -67,6 +74,17 @@ module _ (f : FillingNumbers) (s list : List ℕ) (h : refusal-of s ≡ 0) (clai
   depth-under : (i : ℕ) → i < depth-count s → depth s i ≤ V-of s
   depth-under i g = accepted s h .measured .depths-most i g
 
+  pub depths-hold : (l : Load) (i : ℕ) → i < depth-count s → Holds c l (depth s i) (load-in s list l i)
+  depths-hold l i g = subst (Holds c l (depth s i)) (sym (at-load (claim .filled) l i g)) (claim .holds l (depth s i) (depth-under i g))
+
+  pub strakes-hold : (k : ℕ) → k < strake-count s → Holds c p-he (edge-of s (suc k)) (strake-in s list k)
+  strakes-hold k g =
+      subst (Holds c p-he (edge-of s (suc k))) (sym (claim .filled .at-strakes k g)) (claim .holds p-he (edge-of s (suc k)) (edge-most s (suc k)))
+
+  pub zeros : c .run ≡ 0 → (k : ℕ) → k < 9 → bottom-in s list (suc k) ≡ 0
+  zeros e k g =
+      claim .filled .at-bottom (suc k) (omega arith) ∙ ap (λ (l : List ℕ). getD l (suc k) 0) (bottom-flat f c e) ∙ getD-replicate {A = ℕ} 9 k 0 0 g
+
   pub judged : (l : Load) → (l ≡ listed-depth → ⊥) → (i j : ℕ) → i < depth-count s → j < depth-count s
       → Ordered (load-depth c (depth s i)) (load-depth c (depth s j)) (load-in s list l i) (load-in s list l j)
   judged l o i j g n =
@@ -102,11 +120,35 @@ module _ (f : FillingNumbers) (s list : List ℕ) (h : refusal-of s ≡ 0) (clai
       let o = strakes-judged i k g n in
       ordered-by (λ u. o .rises (load-depth-rises c (depth s i) (edge-of s (suc k)) u)) (λ u. o .falls (load-depth-rises c (edge-of s (suc k)) (depth s i) u))
 
--- two lists
-pub lists-ordered : (f : FillingNumbers) (s s' list list' : List ℕ) → refusal-of s ≡ 0 → refusal-of s' ≡ 0 → Claim f s list → Claim f s' list'
-    → SameSectionAndProduct s s' → (l : Load) → FillingLoad l → (i j : ℕ) → i < depth-count s → j < depth-count s'
-    → Ordered (load-depth (silo-of s) (depth s i)) (load-depth (silo-of s') (depth s' j)) (load-in s list l i) (load-in s' list' l j)
-lists-ordered f s s' list list' h h' a b e l o i j g n =
-    rw (at-load (a .filled) l i g, at-load (b .filled) l j n)
-    (ordered-by (a .ordered s' h' e l o (depth s i) (depth s' j) (accepted s' h' .measured .depths-most j n))
-    (b .ordered s h (sym e) l o (depth s' j) (depth s i) (accepted s h .measured .depths-most i g)))
+-- a filling load in two silos with the same section and product, at one depth below the surface
+same-number : (f : FillingNumbers) {l : Load} → FillingLoad l → (c c' : Silo) → c .section ≡ c' .section → c .product ≡ c' .product → (z z' : ℕ)
+    → load-depth c z ≡ load-depth c' z' → load-number f c l z ≡ load-number f c' l z'
+same-number f of-p-hf c c' es ep z z' e = λ i. f .filling-at horizontal (es i) (grain-of (ep i)) (e i)
+same-number f of-p-wf c c' es ep z z' e = λ i. f .filling-at wall-friction (es i) (grain-of (ep i)) (e i)
+same-number f of-p-vf c c' es ep z z' e = λ i. f .filling-at vertical (es i) (grain-of (ep i)) (e i)
+same-number f of-P-w c c' es ep z z' e = λ i. f .wall-load-at (es i) (grain-of (ep i)) (e i)
+
+not-listed : {l : Load} → FillingLoad l → l ≡ listed-depth → ⊥
+not-listed of-p-hf e = omega (arith, ap rank e)
+not-listed of-p-wf e = omega (arith, ap rank e)
+not-listed of-p-vf e = omega (arith, ap rank e)
+not-listed of-P-w e = omega (arith, ap rank e)
+
+-- two lists: a depth of the other sheet is one of this silo, as deep below the surface
+module _ (f : FillingNumbers) (s s' list list' : List ℕ) (h : refusal-of s ≡ 0) (claim : Claim f s list) (left : LeftFor f s' list') (same : SameSectionAndProduct s s') where
+  back : (l : Load) → FillingLoad l → (z z' : ℕ) → z ≤ V-of s → load-depth (silo-of s') z' ≤ load-depth (silo-of s) z
+      → load-number f (silo-of s') l z' ≤ load-number f (silo-of s) l z
+  unfolding load-depth
+  back l o z z' under u =
+      let a = accepted s h .measured in
+      let a' = accepted s' (left .accepted) .measured in
+      let y : ℕ = load-depth (silo-of s') z' + headroom-of s in
+      let e = same-number f o (silo-of s) (silo-of s') (section-equal s s' a a' same) (product-equal s s' a a' same) y z' (omega arith) in
+      omega (arith, e, claim .down l (not-listed o) y z under (omega (arith, u)))
+
+  pub lists-ordered : (l : Load) → FillingLoad l → (i j : ℕ) → i < depth-count s → j < depth-count s'
+      → Ordered (load-depth (silo-of s) (depth s i)) (load-depth (silo-of s') (depth s' j)) (load-in s list l i) (load-in s' list' l j)
+  lists-ordered l o i j g n =
+      rw (at-load (claim .filled) l i g, at-load (left .filled) l j n)
+      (ordered-by (claim .ordered s' (left .accepted) same l o (depth s i) (depth s' j) (accepted s' (left .accepted) .measured .depths-most j n))
+      (back l o (depth s i) (depth s' j) (accepted s h .measured .depths-most i g)))

@@ -24,9 +24,9 @@ pub record Claim (f : FillingNumbers) (s list : List ℕ) : Type 0 where
   -- every load keeps its band or allowance at every depth of the wall, at those listed and at the strakes' edges too; and so does the bottom
   pub holds : (l : Load) (z : ℕ) → z ≤ V-of s → Holds (silo-of s) l z (load-number f (silo-of s) l z)
   pub bottom : BottomHolds (silo-of s) (bottom-in s list)
-  -- no load but z itself is smaller at a greater or an equal depth below the grain's surface
+  -- of the loads other than z none is smaller at a greater or an equal depth below the grain's surface, to which every depth above it counts as 0
   pub down : (l : Load) → (l ≡ listed-depth → ⊥) → (z z' : ℕ) → z' ≤ V-of s → load-depth (silo-of s) z ≤ load-depth (silo-of s) z'
       → load-number f (silo-of s) l z ≤ load-number f (silo-of s) l z'
-  -- nor is a filling load at such a depth of any accepted sheet with the same section and product, whatever the headrooms
+  -- nor is a filling load smaller at such a depth of another accepted sheet with the same section and product, whatever the headrooms
   pub ordered : (s' : List ℕ) → refusal-of s' ≡ 0 → SameSectionAndProduct s s' → (l : Load) → FillingLoad l → (z z' : ℕ) → z' ≤ V-of s'
       → load-depth (silo-of s) z ≤ load-depth (silo-of s') z' → load-number f (silo-of s) l z ≤ load-number f (silo-of s') l z'

@@ -1,17 +1,19 @@
 -- The table's rule, proved once by one computed test over the whole table: sums of number 3, which are of nine terms from above and of eight from below,
--- serve at every degree. No lower sum is above an entry (`no-sum-above`), and the table never rises (`entry-falls`).
+-- serve at every degree. Every lower sum is at most every upper one (`sums-apart`), so no lower sum is above an entry of any table that keeps the rule
+-- (`no-sum-above`); this table never rises (`entry-falls`).
 -- Assumes nothing.
-use mathlib.Core.Path.{_≡_, refl}
+use mathlib.Core.Path.{_≡_, refl, subst}
 use mathlib.Core.Bool.{Bool, true, false, cond, _&&_}
 use mathlib.Core.List.{List, [], _∷_}
 use Prim.Native.Nat.{ℕ, zero, suc, _+_, _*_, _≤_, _<_}
-use native.Mathlib.Nat.{add-zero, add-suc, suc-add, zero-add, le-refl, not-suc-le-zero, le-of-suc-le-suc}
+use native.Mathlib.Decide.{decLt}
+use native.Mathlib.Nat.{mul-pos, add-zero, add-suc, suc-add, zero-add, le-refl, not-suc-le-zero, le-of-suc-le-suc}
 use native.Mathlib.Omega.{arith}
 use lib.Dec.{T, leb, ltb, leb→le, ltb→lt, eqb}
 use mir.Facts.{and-yes}
 use lib.ListN.{length, getD}
 use Rattle.fraction.specs.Fraction.{Fraction, _⊘_, whole, _⊕_, _⪯_, _≺_}
-use Rattle.fraction.proofs.Order.{pos-right, compare, ⪯-refl, ⪯-trans, ⊕-mono, ⊕-cancel}
+use Rattle.fraction.proofs.Order.{pos-left, pos-right, compare, ⪯-refl, ⪯-trans, ⊕-mono, ⊕-cancel}
 use Rattle.exponential.specs.Series.{term, factorial}
 use Rattle.cosine.specs.Cosine.{Difference, AtMost, LessAbove, every-fourth, radians, exactly, where-known, cosine-above, cosine-below, billionths, CosineTable}
 use Rattle.cosine.specs.program.Table.{table, entry}
@@ -38,11 +40,6 @@ less-than-is p q t =
     let r = and-yes (ltb 0 (p .bottom)) (ltb 0 (q .bottom)) (s .0) in
     record { left = ltb→lt 0 (p .bottom) (r .0); right = ltb→lt 0 (q .bottom) (r .1); order = ltb→lt _ _ (s .1) }
 
--- the upper sums at the upper bound of π, which no lower sum there is above
-cosine-over : ℕ → ℕ → Difference
-cosine-over d n =
-    let x = radians 314159265358980 d in where-known d (record { more = every-fourth 0 (suc n) x; less = every-fourth 2 n x })
-
 -- the rule at one entry
 is-above : Difference → ℕ → Bool
 is-above c t = at-most (c .more) (billionths t ⊕ c .less)
@@ -51,26 +48,18 @@ is-near : Difference → ℕ → Bool
 is-near c t = less-than (billionths t ⊕ c .less) (c .more ⊕ billionths 2)
 
 meets : ℕ → ℕ → Bool
-meets d t = (is-above (cosine-above d 3) t && is-near (cosine-below d 3) t) && is-above (cosine-over d 3) t
+meets d t = is-above (cosine-above d 3) t && is-near (cosine-below d 3) t
 
 -- what the test of one entry says
 record Met (d t : ℕ) : Type 0 where
   never-below : (n : ℕ) × AtMost (cosine-above d n) (billionths t)
   less-above : (n : ℕ) × LessAbove (billionths 2) (cosine-below d n) (billionths t)
-  over : AtMost (cosine-over d 3) (billionths t)
 
 meets-is : (d t : ℕ) → T (meets d t) → Met d t
 unfolding meets is-above is-near
 meets-is d t h =
-    let a = is-above (cosine-above d 3) t in
-    let b = is-near (cosine-below d 3) t in
-    let s = and-yes (a && b) (is-above (cosine-over d 3) t) h in
-    let r = and-yes a b (s .0) in
-    record {
-      never-below = (3, at-most-is _ _ (r .0));
-      less-above = (3, less-than-is _ _ (r .1));
-      over = at-most-is _ _ (s .1);
-    }
+    let r = and-yes (is-above (cosine-above d 3) t) (is-near (cosine-below d 3) t) h in
+    record { never-below = (3, at-most-is _ _ (r .0)); less-above = (3, less-than-is _ _ (r .1)) }
 
 -- the rule at each entry of a list, the first at d degrees
 all-meet : ℕ → List ℕ → Bool
@@ -86,7 +75,7 @@ each d (t ∷ ts) h (suc i) l =
 
 -- the computed test, over the whole table
 tested : T (all-meet 0 table)
-unfolding all-meet meets is-above is-near at-most less-than cosine-above cosine-below cosine-over where-known every-fourth term factorial table
+unfolding all-meet meets is-above is-near at-most less-than cosine-above cosine-below where-known every-fourth term factorial table
 tested = tt
 
 table-length : length table ≡ 91
@@ -119,27 +108,88 @@ at-known R same d a b h = go (eqb d 0) (eqb d 60) (eqb d 90)
     go false false false = h
 
 -- one difference is at most another
-abbrev Under : Difference → Difference → Type 0
+abbrev pub Under : Difference → Difference → Type 0
 Under a b = a .more ⊕ b .less ⪯ b .more ⊕ a .less
 
-sums-under : (d n : ℕ) → d < 91 → Under (cosine-below d n) (cosine-over d 3)
-unfolding cosine-below cosine-over
-sums-under d n l =
-    at-known Under (λ c h. compare (omega arith) (omega arith) (omega arith)) d _ _
-    (sums-meet (radians 314159265358980 d) (omega arith) (compare (omega arith) (omega arith) (omega arith)) n 3)
-
--- no lower sum is above an entry
-pub no-sum-above : (d n : ℕ) → d < 91 → AtMost (cosine-below d n) (billionths (entry d))
-no-sum-above d n l =
-    let a : Difference = cosine-below d n in
-    let b : Difference = cosine-over d 3 in
-    let t : Fraction = billionths (entry d) in
-    let u = sums-under d n l in
+-- what is at most t is at most t from below too
+pub under-most : (a b : Difference) (t : Fraction) → Under a b → AtMost b t → AtMost a t
+under-most a b t u h =
     let ha : 0 < a .less .bottom = pos-right (b .more .bottom) (a .less .bottom) (u .right) in
     let hb : 0 < b .less .bottom = pos-right (a .more .bottom) (b .less .bottom) (u .left) in
     ⊕-cancel (a .more) (t ⊕ a .less) (b .less)
-    (⪯-trans u
-    (⪯-trans (⊕-mono (met d l .over) (⪯-refl (a .less) ha)) (exchanged t (a .less) (b .less) (omega arith) ha hb)))
+    (⪯-trans u (⪯-trans (⊕-mono h (⪯-refl (a .less) ha)) (exchanged t (a .less) (b .less) (pos-left (t .bottom) _ (h .right)) ha hb)))
+
+-- sums taken apart another way
+shuffled : (p q r s : Fraction) → 0 < p .bottom → 0 < q .bottom → 0 < r .bottom → 0 < s .bottom → (p ⊕ s) ⊕ (q ⊕ r) ⪯ (p ⊕ q) ⊕ (r ⊕ s)
+shuffled p q r s hp hq hr hs =
+    record { left = mul-pos (mul-pos hp hs) (mul-pos hq hr); right = mul-pos (mul-pos hp hq) (mul-pos hr hs); order = omega arith }
+
+turned : (p q r s : Fraction) → 0 < p .bottom → 0 < q .bottom → 0 < r .bottom → 0 < s .bottom → (r ⊕ s) ⊕ (p ⊕ q) ⪯ (p ⊕ s) ⊕ (q ⊕ r)
+turned p q r s hp hq hr hs =
+    record { left = mul-pos (mul-pos hr hs) (mul-pos hp hq); right = mul-pos (mul-pos hp hs) (mul-pos hq hr); order = omega arith }
+
+under-trans : (a b c : Difference) → Under a b → Under b c → Under a c
+under-trans a b c u w =
+    let am = pos-left (a .more .bottom) _ (u .left) in
+    let bl = pos-right (a .more .bottom) _ (u .left) in
+    let bm = pos-left (b .more .bottom) _ (u .right) in
+    let al = pos-right (b .more .bottom) _ (u .right) in
+    let cl = pos-right (b .more .bottom) _ (w .left) in
+    let cm = pos-left (c .more .bottom) _ (w .right) in
+    ⊕-cancel (a .more ⊕ c .less) (c .more ⊕ a .less) (b .less ⊕ b .more)
+    (⪯-trans (shuffled (a .more) (b .less) (b .more) (c .less) am bl bm cl)
+    (⪯-trans (⊕-mono u w) (turned (c .more) (b .less) (b .more) (a .less) cm bl bm al)))
+
+-- the sums of one number at x, from above and from below
+abbrev upper : Fraction → ℕ → Difference
+upper x n = record { more = every-fourth 0 (suc n) x; less = every-fourth 2 n x }
+
+abbrev lower : Fraction → ℕ → Difference
+lower x n = record { more = every-fourth 0 n x; less = every-fourth 2 n x }
+
+-- the upper sum of number 4 at the upper bound of π is at most the lower one at the lower bound: tested at every degree
+gap : ℕ → Bool
+gap d =
+    let a = upper (radians 314159265358980 d) 4 in
+    let b = lower (radians 314159265358979 d) 4 in
+    at-most (a .more ⊕ b .less) (b .more ⊕ a .less)
+
+gaps : ℕ → Bool
+gaps zero = true
+gaps (suc d) = gap d && gaps d
+
+gap-below : (n d : ℕ) → d < suc n → T (gap n) → (d < n → T (gap d)) → Dec (d < n) → T (gap d)
+gap-below n d l here below (yes g) = below g
+gap-below n d l here below (no g) = let e : n ≡ d = omega arith in subst (λ (k : ℕ). T (gap k)) e here
+
+each-gap : (n d : ℕ) → d < n → T (gaps n) → T (gap d)
+unfolding gaps
+each-gap zero d l h = absurd (not-suc-le-zero l)
+each-gap (suc n) d l h =
+    let both = and-yes (gap n) (gaps n) h in
+    gap-below n d l (both .0) (λ g. each-gap n d g (both .1)) (decLt d n)
+
+tested-gaps : T (gaps 91)
+unfolding gaps gap at-most every-fourth term factorial
+tested-gaps = tt
+
+-- every lower sum is at most every upper one, whichever bounds of π they are taken at
+pub sums-apart : (d m n : ℕ) → d < 91 → Under (cosine-below d m) (cosine-above d n)
+unfolding cosine-below cosine-above gap
+sums-apart d m n l =
+    let high = radians 314159265358980 d in
+    let low = radians 314159265358979 d in
+    at-known Under (λ c h. compare (omega arith) (omega arith) (omega arith)) d _ _
+    (under-trans (lower high m) (upper high 4) (upper low n)
+    (sums-meet high (omega arith) (compare (omega arith) (omega arith) (omega arith)) m 4)
+    (under-trans (upper high 4) (lower low 4) (upper low n) (at-most-is _ _ (each-gap 91 d l tested-gaps))
+    (sums-meet low (omega arith) (compare (omega arith) (omega arith) (omega arith)) 4 n)))
+
+-- no lower sum is above an entry of a table that keeps its rule
+pub no-sum-above : {c : ℕ → ℕ} → CosineTable c → (d n : ℕ) → d < 91 → AtMost (cosine-below d n) (billionths (c d))
+no-sum-above {c} t d n l =
+    let (m, u) = t .never-below d l in
+    under-most (cosine-below d n) (cosine-above d m) (billionths (c d)) (sums-apart d n m l) u
 
 -- the table never rises
 falling : ℕ → List ℕ → Bool

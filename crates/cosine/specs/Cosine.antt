@@ -49,7 +49,7 @@ cosine-below d n = let x = radians 314159265358980 d in where-known d (record { 
 abbrev pub billionths : ℕ → Fraction
 billionths t = t ⊘ 10 ^ 9
 
--- the one fixed table: each entry is never below the cosine, and less than 2 above it
+-- the one fixed table: each entry is never below the cosine, and less than 2 billionths above it
 pub record CosineTable (entry : ℕ → ℕ) : Type 0 where
   pub never-below : (d : ℕ) → d < 91 → (n : ℕ) × AtMost (cosine-above d n) (billionths (entry d))
   pub less-above : (d : ℕ) → d < 91 → (n : ℕ) × LessAbove (billionths 2) (cosine-below d n) (billionths (entry d))

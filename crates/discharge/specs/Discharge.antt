@@ -1,5 +1,5 @@
 -- Discharge, patch and flat floor, made from filling pressures in Pa. Document 01, "Loads made from filling"; document 02, C-11; source 001,
--- clauses 5.2.2.1 and 5.3. Each formula stands once over fractions, rounding nothing; the load rounds it up at the whole pressure that it rests on.
+-- clauses 5.2.1.2, 5.2.2.1 and 5.3. Formulas are over fractions, rounding nothing; the load rounds its own up at the whole pressure that it rests on.
 use Prim.Native.Nat.{ℕ, _-_, _*_}
 use mathlib.Core.Bool.{cond}
 use lib.Dec.{leb, ltb}

@@ -1,4 +1,4 @@
--- The filling pressures by Janssen's formula. Document 01, "Filling"; source 001, clauses 5.2.1 and 7.3.
+-- The filling pressures by Janssen's formula. Document 01, "Filling"; source 001, clauses 5.2.1, 7.2 and 7.3.
 use Prim.Native.Nat.{ℕ}
 use Rattle.fraction.specs.Fraction.{Fraction, _⊘_, whole, _⊗_, _÷_}
 use Rattle.janssen.specs.declared.Section.{Section}
@@ -23,7 +23,7 @@ pub record Factors : Type 0 where
   pub Ks-times : Fraction
   pub μ-times : Fraction
 
--- clause 7.3: 1.15 upper, 0.9 lower
+-- 1.15 upper, 0.9 lower (7.1 to 7.3, and 7.3.2)
 abbrev pub upper-factor : Fraction
 upper-factor = 115 ⊘ 100
 

@@ -1,4 +1,5 @@
--- The numbers that document 01 leaves free: each is set by section, grain and depth alone. What holds of them is in `Band`.
+-- The filling pressures and P_w, which document 01 leaves free: each is set by section, grain and depth alone. Their bands are in `Band`, and their order
+-- with depth is part of the load call's `Claim`.
 use Prim.Native.Nat.{ℕ}
 use Rattle.janssen.specs.declared.Section.{Section}
 use Rattle.janssen.specs.Filling.{Grain, Kind}

@@ -1,5 +1,5 @@
--- The loads by name, and the number of each. Document 01, "Sheet", "Loads made from filling" and "Answer list"; document 02, C-13. Lengths in mm;
--- pressures in Pa, P_w in N/m. The filling pressures and P_w are free: f names them.
+-- The loads by name, and the number of each. Document 01, "Sheet", "Loads made from filling" and "Answer list"; document 02, C-11 and C-13; source 001,
+-- clauses 5.2.2.1 and 5.3. Lengths in mm; pressures in Pa, P_w in N/m. The filling pressures and P_w are free: f names them.
 use Prim.Native.Nat.{ℕ, _+_, _-_, _*_}
 use mathlib.Core.Bool.{cond}
 use mathlib.Core.List.{List, [], _∷_, _++_, map}

@@ -50,24 +50,24 @@ unfoldable pub depths-met : ℕ → ℕ → List ℕ → Bool
 depths-met top low [] = true
 depths-met top low (z ∷ l) = within low top z && depths-met top (z + 1) l
 
--- the rules of a sheet's values, in order, by two tests: where only a length or a count is told, 20 is not tried; 11 is of the listed depths and of one
--- given beside the sheet, which is at most V or is not. 17: g < V; 12: h < 10·d_c; 13 is retired (document 02, C-11)
+-- the rules of a sheet's values, in order, by two tests: where only a length or a count is told, 20 is not tried; 11 is of the listed depths and of one given
+-- beside the sheet, which is at most V or is not (where none is given, it is). 17: g < V; 12: h < 10·d_c; 13 is retired (document 02, C-11)
 unfoldable pub value-rules : Bool → Bool → List ℕ → List Rule
-value-rules told given s =
+value-rules length-only depth-met s =
     6 unless sides-met (section-of s)
-    ∷ 20 unless (told || proportion-met (section-of s))
+    ∷ 20 unless (length-only || proportion-met (section-of s))
     ∷ 7 unless product-met (product-sent s)
     ∷ 8 unless eccentricities-met (d-c (section-of s)) (eccentricities-of s)
     ∷ 9 unless (flat (bottom-of s) || hopper (d-c (section-of s)) (bottom-of s))
     ∷ 10 unless strakes-met (strakes-of s)
-    ∷ 11 unless (given && depths-met (V-of s) 0 (depths-of s))
+    ∷ 11 unless (depth-met && depths-met (V-of s) 0 (depths-of s))
     ∷ 17 unless ltb (headroom-of s) (V-of s)
     ∷ 12 unless ltb (h-of s) (10 * d-c (section-of s))
     ∷ []
 
 -- 1 to 5 on the records, then those of the values
 unfoldable pub rules-with : Bool → Bool → List ℕ → List Rule
-rules-with told given s = layout-rules s ++ value-rules told given s
+rules-with length-only depth-met s = layout-rules s ++ value-rules length-only depth-met s
 
 -- where loads are worked out: of a sheet alone, and of a sheet beside which the depth z mm is given
 abbrev pub sheet-rules : List ℕ → List Rule

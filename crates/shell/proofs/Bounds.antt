@@ -19,8 +19,6 @@ use Rattle.sheet.proofs.Acceptance.{accepted}
 use Rattle.sheet.proofs.Described.{V-most, in-range}
 use Rattle.loads.specs.Load.{load-depth}
 use Rattle.loads.proofs.Bounds.{patch-small}
-use Rattle.loads.proofs.LoadLaws.{rises}
-use Rattle.loads.specs.Load.Load.{p-p}
 use Rattle.answers.specs.Answers.{silo-of}
 use Rattle.answers.proofs.Demand.{silo-fits, reached}
 use Rattle.shell.specs.Shell.{size, F-p}
@@ -40,9 +38,9 @@ pub product-fits : (p t : ℕ) → p < 2 ^ 21 → t ≤ 1000000000 → p * t < 2
 product-fits p t hp ht = let h : p ≤ 2 ^ 21 = omega arith in omega (arith, mul-le-mul h ht)
 
 -- they rise with p_p and fall with the angle
-pub size-rises : (p p' d : ℕ) → p ≤ p' → size entry p d ≤ size entry p' d
+pub size-rises : (c : ℕ → ℕ) (p p' d : ℕ) → p ≤ p' → size c p d ≤ size c p' d
 unfolding size
-size-rises p p' d h = up-mono (compare (omega arith) (omega arith) (omega (arith, mul-le-mul-right (entry d) h)))
+size-rises c p p' d h = up-mono (compare (omega arith) (omega arith) (omega (arith, mul-le-mul-right (c d) h)))
 
 pub size-falls : (p d d' : ℕ) → d ≤ d' → size entry p d' ≤ size entry p d
 unfolding size
@@ -91,7 +89,3 @@ module _ (s : List ℕ) (z : ℕ) (h : refusal-of s ≡ 0) (under : z ≤ V-of s
 
   pub force-fits : F-p (d-c (section-of s)) (patch-at computed s z) < 2 ^ 31
   force-fits = force-most (d-c (section-of s)) (patch-at computed s z) width-most patch-fits
-
-  -- p_p does not fall with depth
-  pub patch-rises : (z' : ℕ) → z' ≤ z → patch-at computed s z' ≤ patch-at computed s z
-  patch-rises z' g = let a = accepted s h .measured in rises (silo-of s) (silo-fits s a) z' z (reached s a z under) p-p g

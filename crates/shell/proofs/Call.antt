@@ -5,11 +5,10 @@ use mathlib.Core.Path.{_≡_, refl, sym, ap, subst, _∙_}
 use mathlib.Core.Bool.{true, false}
 use mathlib.Core.List.{List, [], _∷_}
 use native.Mathlib.Omega.{arith}
-use native.Mathlib.Decide.{decLt}
 use borrow.Author.Tests.{eq-eqb, ne-eqb, eqb-true}
 use lib.Dec.{leb, eqb}
-use lib.ListN.{length, getD}
-use lib.IntN.{ℤ, pos, natAbs}
+use lib.ListN.{length}
+use lib.IntN.{ℤ}
 use Rattle.records.specs.Rules.{_unless_, first-unmet}
 use Rattle.records.proofs.Fills.{fills-refused, fills-done}
 use Rattle.records.proofs.Chain.{met, apart, stopped, skipped}
@@ -31,16 +30,16 @@ use Rattle.loads.specs.Load.Load.{p-p}
 use Rattle.loads.specs.program.Basis.{basis-for, Reached, Sound}
 use Rattle.loads.proofs.LoadLaws.{holds}
 use Rattle.answers.specs.Answers.{silo-of}
-use Rattle.answers.specs.program.Fill.{silo-in, basis-of}
-use Rattle.answers.proofs.Demand.{silo-fits, reached}
+use Rattle.answers.specs.program.Fill.{silo-in, basis-of, answers}
+use Rattle.answers.proofs.Places.{answers-filled}
+use Rattle.answers.proofs.Demand.{silo-fits, reached, claim}
 use Rattle.answers.proofs.Whole.{basis-described, basis-sound}
 use Rattle.shell.specs.Shell.{folded, outward, size, p-ps, ReplyList, ReplyListOf, is-circle, shell-rules}
 use Rattle.shell.specs.program.Fill.{patch-at}
 use Rattle.shell.specs.Holds.{ShellClaim}
 use Rattle.shell.specs.Promise.{ShellPromise}
-use Rattle.shell.proofs.Signs.{signed-size}
 use Rattle.shell.proofs.Quadrants.{folded-small}
-use Rattle.shell.proofs.Bounds.{patch-fits, width-most, patch-rises, size-rises, force-rises}
+use Rattle.shell.proofs.Bounds.{patch-fits, width-most}
 use Rattle.shell.proofs.Sizes.{size-holds}
 
 -- the basis of an accepted sheet serves the patch at a depth of its wall, and the list made from it is the sheet's
@@ -67,22 +66,6 @@ module _ (s : List ℕ) (d : Described) (z : ℕ) (h : refusal-of s ≡ 0) (e : 
         subst (λ (n : ℕ). ReplyList entry n (patch-at computed s z) list) width-of-sheet
         (subst (λ (n : ℕ). ReplyList entry (b .dc) n list) patch-of-sheet r)
 
--- a list's sizes are those of p_p
-sizes-in : (d p : ℕ) (list : List ℤ) → ReplyList entry d p list → (θ : ℕ) → θ < 360 → natAbs (getD list θ (pos 0)) ≡ size entry p (folded θ)
-unfolding p-ps
-sizes-in d p list r θ g = ap natAbs (r .pressures θ g) ∙ signed-size (outward θ) (size entry p (folded θ))
-
--- with a greater p_p, no size and no force is smaller
-lists-rise : (d p p' : ℕ) (list list' : List ℤ) → ReplyList entry d p list → ReplyList entry d p' list' → p ≤ p' → (i : ℕ) → i < 361
-    → natAbs (getD list i (pos 0)) ≤ natAbs (getD list' i (pos 0))
-lists-rise d p p' list list' r r' h i l = go (decLt i 360)
-  where
-    go : Dec (i < 360) → natAbs (getD list i (pos 0)) ≤ natAbs (getD list' i (pos 0))
-    go (yes g) = omega (arith, sizes-in d p list r i g, sizes-in d p' list' r' i g, size-rises p p' (folded i) h)
-    go (no g) =
-        let e : 360 ≡ i = omega arith in
-        subst (λ (k : ℕ). natAbs (getD list k (pos 0)) ≤ natAbs (getD list' k (pos 0))) e (rw (r .force, r' .force) (force-rises d p p' h))
-
 -- what holds of the list of an accepted sheet and a depth of its wall
 pub shell-claim : (s : List ℕ) (z : ℕ) (list : List ℤ) → refusal-of s ≡ 0 → z ≤ V-of s → ReplyListOf computed entry s z list → ShellClaim computed entry s z list
 unfolding p-ps
@@ -93,7 +76,7 @@ shell-claim s z list h under r =
     record {
       filled = r;
       sizes = λ θ g. (size entry p (folded θ), r .pressures θ g, size-holds _ _ p (folded θ) (patch-fits s z h under) (folded-small θ g) kept);
-      down = λ z' list' r' g u. lists-rise (d-c (section-of s)) p (patch-at computed s z') list list' r r' (patch-rises s z' h u z g);
+      demand = (answers s, claim s (answers s) h (answers-filled s));
     }
 
 -- what the call answers, given the depth z and lent n numbers; never 13

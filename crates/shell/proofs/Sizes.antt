@@ -4,12 +4,12 @@ use Prim.Native.Nat.{ℕ, _+_, _*_, _^_, _≤_, _<_}
 use native.Mathlib.Omega.{arith}
 use native.Mathlib.Nat.{mul-pos, mul-le-mul-left, mul-le-mul-right}
 use Rattle.fraction.specs.Fraction.{Fraction, whole, _⊕_, _⊗_, _⪯_, _≺_, up}
-use Rattle.fraction.proofs.Order.{⪯-refl, ⪯-trans, ≺-⪯-trans, ≺-⪯, ⊕-mono, ⊗-mono}
+use Rattle.fraction.proofs.Order.{pos-left, pos-right, ⪯-refl, ⪯-trans, ≺-⪯-trans, ≺-⪯, ⊕-mono, ⊗-mono}
 use Rattle.fraction.proofs.Up.{up-above, up-lt}
 use Rattle.allowance.specs.Allowance.{Allowance}
-use Rattle.cosine.specs.Cosine.{AtMost, cosine-below, billionths}
+use Rattle.cosine.specs.Cosine.{Difference, AtMost, cosine-above, cosine-below, billionths}
 use Rattle.cosine.specs.program.Table.{entry}
-use Rattle.cosine.proofs.CosineLaws.{tabulated, no-sum-above, entry-most}
+use Rattle.cosine.proofs.CosineLaws.{tabulated, under-most, sums-apart, entry-most}
 use Rattle.shell.specs.Shell.{size}
 use Rattle.shell.specs.Holds.{scaled, SizeHolds}
 
@@ -18,6 +18,13 @@ spread : (f t l : Fraction) → 0 < f .bottom → 0 < t .bottom → 0 < l .botto
 spread f t l hf ht hl = record {
   left = mul-pos hf (mul-pos ht hl);
   right = mul-pos (mul-pos hf ht) (mul-pos hf hl);
+  order = omega arith;
+}
+
+gathered : (f t l : Fraction) → 0 < f .bottom → 0 < t .bottom → 0 < l .bottom → f ⊗ t ⊕ f ⊗ l ⪯ f ⊗ (t ⊕ l)
+gathered f t l hf ht hl = record {
+  left = mul-pos (mul-pos hf ht) (mul-pos hf hl);
+  right = mul-pos hf (mul-pos ht hl);
   order = omega arith;
 }
 
@@ -65,14 +72,22 @@ module _ (f m l t p : Fraction) (hf : 0 < f .bottom) (ht : 0 < t .bottom) (hl : 
       (⪯-trans given
       (⪯-trans (⊕-mono (⪯-refl (f ⊗ m) (mul-pos hf hm)) (⊕-mono hs (⪯-refl (whole 4) (omega arith)))) five)))))
 
--- no product of F over a lower fraction and a lower sum of the cosine is above the size
-pub above-lower : {A : Type 0} (Low : A → Type 0) (F : A → Fraction) (p d : ℕ) → d < 91 → Allowance Low F 3 p → (v : A) → Low v → (n : ℕ)
-    → AtMost (scaled (F v) (cosine-below d n)) (whole (size entry p d))
-unfolding size
-above-lower Low F p d hd a v low n =
-    let t : Fraction = billionths (entry d) in
-    let b = no-sum-above d n hd in
-    above (F v) _ _ t (whole p) (whole (up (whole p ⊗ t))) (omega (arith, b .right)) b (omega arith) (a .at-or-above v low) (up-above (whole p ⊗ t) (omega arith))
+-- a size that holds is at or above every product of F over a lower fraction and a lower sum of the cosine, whatever the pressures and the table are
+pub above-lower : {A : Type 0} (Low : A → Type 0) (F : A → Fraction) (w d n : ℕ) → d < 91 → SizeHolds Low F w d n → (v : A) → Low v → (m : ℕ)
+    → AtMost (scaled (F v) (cosine-below d m)) (whole n)
+above-lower Low F w d n hd holds v low m =
+    let (k, u) = holds .at-or-above v low in
+    let f : Fraction = F v in
+    let a : Difference = cosine-below d m in
+    let b : Difference = cosine-above d k in
+    let under = sums-apart d m k hd in
+    let hf = pos-left (f .bottom) _ (u .left) in
+    let am = pos-left (a .more .bottom) _ (under .left) in
+    let bl = pos-right (a .more .bottom) _ (under .left) in
+    let bm = pos-left (b .more .bottom) _ (under .right) in
+    let al = pos-right (b .more .bottom) _ (under .right) in
+    under-most (scaled f a) (scaled f b) (whole n)
+    (⪯-trans (gathered f (a .more) (b .less) hf am bl) (⪯-trans (⊗-mono (⪯-refl f hf) under) (spread f (b .more) (a .less) hf bm al))) u
 
 -- the sizes keep their allowance where p_p keeps its own, at any formula F
 pub size-holds : {A : Type 0} (Low : A → Type 0) (F : A → Fraction) (p d : ℕ) → p < 2 ^ 21 → d < 91 → Allowance Low F 3 p → SizeHolds Low F 5 d (size entry p d)

@@ -1,16 +1,16 @@
 -- What holds of the patch round the shell: each size is at or above its exact value and less than 5 Pa above it. Document 02, C-16.
-use Prim.Native.Nat.{ℕ, _≤_, _<_}
+use Prim.Native.Nat.{ℕ, _<_}
 use mathlib.Core.Path.{_≡_}
 use mathlib.Core.List.{List}
 use lib.ListN.{getD}
-use lib.IntN.{ℤ, pos, natAbs}
+use lib.IntN.{ℤ, pos}
 use Rattle.fraction.specs.Fraction.{Fraction, whole, _⊗_}
 use Rattle.cosine.specs.Cosine.{Difference, AtMost, LessAbove, cosine-above, cosine-below}
 use Rattle.janssen.specs.Filling.Kind.{horizontal}
 use Rattle.janssen.specs.Numbers.{FillingNumbers}
-use Rattle.description.specs.Silo.{V-of}
 use Rattle.loads.specs.Holds.{LowerAt, exact-patch}
 use Rattle.answers.specs.Answers.{silo-of}
+use Rattle.answers.specs.Claim.{Claim}
 use Rattle.shell.specs.Shell.{folded, outward, signed, ReplyListOf}
 
 abbrev pub scaled : Fraction → Difference → Difference
@@ -29,6 +29,5 @@ pub record ShellClaim (f : FillingNumbers) (c : ℕ → ℕ) (s : List ℕ) (z :
   pub filled : ReplyListOf f c s z list
   pub sizes : (θ : ℕ) → θ < 360
       → (n : ℕ) × (getD list θ (pos 0) ≡ signed (outward θ) n) × SizeHolds (LowerAt horizontal (silo-of s) z) (exact-patch (silo-of s)) 5 (folded θ) n
-  -- going down, no size falls, and the force neither
-  pub down : (z' : ℕ) (list' : List ℤ) → ReplyListOf f c s z' list' → z ≤ z' → z' ≤ V-of s → (i : ℕ) → i < 361
-      → natAbs (getD list i (pos 0)) ≤ natAbs (getD list' i (pos 0))
+  -- demand 3 holds of the same filling numbers in the answer list
+  pub demand : (answers : List ℕ) × Claim f s answers

@@ -45,19 +45,19 @@ size c p d = up (whole p ⊗ billionths (c d))
 unfoldable pub p-ps : (ℕ → ℕ) → ℕ → ℕ → ℤ
 p-ps c p θ = signed (outward θ) (size c p (folded θ))
 
--- s = 0.2·d_c (5.10), m; d in mm
+-- s = 0.2·d_c (5.10), m; d_c in mm
 abbrev pub patch-height : ℕ → Fraction
-patch-height d = (2 ⊘ 10) ⊗ metres d
+patch-height dc = (2 ⊘ 10) ⊗ metres dc
 
--- F_p = π/2·s·d_c·p_p (5.12) with 355/113 for π, N, rounded up once; d in mm, p in Pa
+-- F_p = π/2·s·d_c·p_p (5.12) with 355/113 for π, N, rounded up once; d_c in mm, p_p in Pa
 unfoldable pub F-p : ℕ → ℕ → ℕ
-F-p d p = up ((355 ⊘ 113) ÷ whole 2 ⊗ patch-height d ⊗ metres d ⊗ whole p)
+F-p dc p = up ((355 ⊘ 113) ÷ whole 2 ⊗ patch-height dc ⊗ metres dc ⊗ whole p)
 
--- the reply list for the patch p of a circle of width d: 360 pressures, and the force
-pub record ReplyList (c : ℕ → ℕ) (d p : ℕ) (list : List ℤ) : Type 0 where
+-- the reply list for the patch p of a circle, its diameter d_c in mm: 360 pressures, and the force
+pub record ReplyList (c : ℕ → ℕ) (dc p : ℕ) (list : List ℤ) : Type 0 where
   pub sized : length list ≡ 361
   pub pressures : (θ : ℕ) → θ < 360 → getD list θ (pos 0) ≡ p-ps c p θ
-  pub force : getD list 360 (pos 0) ≡ pos (F-p d p)
+  pub force : getD list 360 (pos 0) ≡ pos (F-p dc p)
 
 -- the reply list of a sheet and the depth z mm below the brim, with p_p as the answer list has it there
 abbrev pub ReplyListOf : FillingNumbers → (ℕ → ℕ) → List ℕ → ℕ → List ℤ → Type 0
