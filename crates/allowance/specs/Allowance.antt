@@ -1,5 +1,5 @@
 -- A load made from filling, compared through lower fractions. Document 01, "Filling".
-use Prim.Native.Nat.{ℕ, _<_}
+use Prim.Native.Nat.{ℕ}
 use Rattle.fraction.specs.Fraction.{Fraction, whole, _⊕_, _⊗_, _⪯_, _≺_}
 use Rattle.exponential.specs.Series.{S}
 

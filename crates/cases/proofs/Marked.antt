@@ -2,7 +2,7 @@
 -- sheet of that h, since the first refusal is then that of the shape.
 use Prim.Native.Nat.{ℕ}
 use native.Mathlib.Omega.{arith}
-use lib.Dec.{ltb, leb, lit<, ltb→lt, leb→le}
+use lib.Dec.{ltb, lit<, ltb→lt, leb→le}
 use lib.ListN.{take, drop, replicate}
 use mathlib.Core.List.{List, [], _∷_}
 use mathlib.Core.Bool.{true, false}

@@ -10,7 +10,7 @@ use Rattle.fraction.proofs.Order.{pos-left, pos-right}
 use Rattle.exponential.specs.Series.{S}
 use Rattle.exponential.proofs.SeriesLaws.{S-one}
 use Rattle.janssen.specs.declared.Section.{Section}
-use Rattle.janssen.specs.Filling.{Grain, Kind, factors, q, P, D, N, γR}
+use Rattle.janssen.specs.Filling.{Grain, Kind, factors, q, P, D, N}
 use Rattle.janssen.specs.Filling.Kind.{wall-friction}
 use Rattle.janssen.specs.Band.{FillingBand, WallLoadBand}
 use Rattle.janssen.specs.program.Range.{InRange}

@@ -1,7 +1,7 @@
 -- The texts at the start of the buffer: REFUSED and a number below 100, or the page. The buffer has room for both, so the page call's own 18 never
 -- comes, and what it answers is the sheet's refusal.
 -- Assumes nothing.
-use Prim.Native.Nat.{ℕ, _+_, _/_, _%_, _≤_, _<_}
+use Prim.Native.Nat.{ℕ, _/_, _%_, _≤_, _<_}
 use mathlib.Core.Path.{_≡_, refl, ap, sym, _∙_}
 use mathlib.Core.Bool.{cond}
 use mathlib.Core.List.{List, [], _∷_, _++_}

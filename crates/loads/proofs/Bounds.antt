@@ -1,7 +1,7 @@
 -- No load that holds is above its bound, whatever the filling numbers: a filling pressure is at most 2 above its P, which the largest sizes bound, P_w at
 -- most 2 above γR·z, and a magnifier is at most 2.
 -- Assumes nothing.
-use Prim.Native.Nat.{ℕ, zero, suc, _+_, _-_, _*_, _/_, _^_, _≤_, _<_}
+use Prim.Native.Nat.{ℕ, zero, suc, _+_, _-_, _*_, _^_, _≤_, _<_}
 use mathlib.Core.Path.{_≡_}
 use mathlib.Core.List.{_++_, map}
 use native.Mathlib.Nat.{mul-le-mul, mul-le-mul-left, mul-le-mul-right, le-of-suc-le-suc}

@@ -3,7 +3,7 @@
 -- A character of the page is found by its line, its column and its place there; the nine of a field make up the number's field, since it has at most
 -- nine digits.
 -- Assumes nothing.
-use Prim.Native.Nat.{ℕ, zero, suc, _+_, _-_, _*_, _^_, _≤_, _<_}
+use Prim.Native.Nat.{ℕ, _+_, _-_, _*_, _^_, _≤_, _<_}
 use mathlib.Core.Path.{_≡_, refl, ap, sym, _∙_}
 use mathlib.Core.List.{List, _++_}
 use native.Mathlib.Nat.{add-zero}
@@ -17,8 +17,6 @@ use Rattle.text.proofs.Fields.{field-length, field-spaced, field-read}
 use Rattle.janssen.specs.Numbers.{FillingNumbers}
 use Rattle.description.specs.Silo.{strake-count, depth-count}
 use Rattle.sheet.specs.Refusal.{refusal-of}
-use Rattle.loads.specs.Load.{Load}
-use Rattle.loads.specs.Load.Load.{listed-depth}
 use Rattle.answers.specs.Each.{each}
 use Rattle.answers.specs.Length.{length-due}
 use Rattle.answers.specs.Place.{load-place}

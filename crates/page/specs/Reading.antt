@@ -5,7 +5,6 @@ use mathlib.Core.List.{List}
 use lib.ListN.{getD, take, drop}
 use Rattle.text.specs.Reading.{reading}
 use Rattle.description.specs.Silo.{strake-count, depth-count}
-use Rattle.loads.specs.Load.Load.{listed-depth}
 use Rattle.answers.specs.Place.{load-place}
 use Rattle.answers.specs.Answers.{bottom-in, strake-in}
 

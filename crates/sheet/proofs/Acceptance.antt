@@ -1,6 +1,6 @@
 -- A sheet is not refused exactly when it is `Accepted`: no rule of the chain refuses when each is met, and each rule's test says the
 -- inequalities of `Accepted`.
-use Prim.Native.Nat.{ℕ, _*_, _≤_, _<_, min, max}
+use Prim.Native.Nat.{ℕ, _*_, _≤_, min, max}
 use mathlib.Core.Bool.{true, false, _&&_, _||_}
 use mathlib.Core.List.{List}
 use mathlib.Core.Logic.{_⊎_, inl, inr, ⊎-elim}

@@ -34,7 +34,7 @@ use Rattle.answers.specs.program.Fill.{silo-in, basis-of, answers}
 use Rattle.answers.proofs.Places.{answers-filled}
 use Rattle.answers.proofs.Demand.{silo-fits, reached, claim}
 use Rattle.answers.proofs.Whole.{basis-described, basis-sound}
-use Rattle.shell.specs.Shell.{folded, outward, size, p-ps, ReplyList, ReplyListOf, is-circle, shell-rules}
+use Rattle.shell.specs.Shell.{folded, size, p-ps, ReplyList, ReplyListOf, is-circle, shell-rules}
 use Rattle.shell.specs.program.Fill.{patch-at}
 use Rattle.shell.specs.Holds.{ShellClaim}
 use Rattle.shell.specs.Promise.{ShellPromise}

@@ -12,7 +12,7 @@ use Rattle.janssen.specs.Section.{d-c}
 use Rattle.janssen.specs.Numbers.{FillingNumbers}
 use Rattle.description.specs.Silo.{section-of, V-of}
 use Rattle.loads.specs.Load.{load-depth, load-number}
-use Rattle.loads.specs.Load.Load.{listed-depth, p-p}
+use Rattle.loads.specs.Load.Load.{p-p}
 use Rattle.answers.specs.Order.{rank}
 use Rattle.answers.specs.Answers.{silo-of}
 use Rattle.shell.specs.Shell.{folded, outward, size, p-ps, ReplyList, ReplyListOf}

@@ -1,6 +1,6 @@
 -- The sizes round the shell keep their allowance where p_p keeps its own (`size-holds`; `above-lower`). At or above: F·cos ≤ F·t ≤ p_p·t ≤ size. Less than 5 above:
 -- size < p_p·t + 1, p_p < F + 3, t ≤ 1 and t < cos + 2·10^-9, and F·2·10^-9 is below 1.
-use Prim.Native.Nat.{ℕ, _+_, _*_, _^_, _≤_, _<_}
+use Prim.Native.Nat.{ℕ, _*_, _^_, _<_}
 use native.Mathlib.Omega.{arith}
 use native.Mathlib.Nat.{mul-pos, mul-le-mul-left, mul-le-mul-right}
 use Rattle.fraction.specs.Fraction.{Fraction, whole, _⊕_, _⊗_, _⪯_, _≺_, up}

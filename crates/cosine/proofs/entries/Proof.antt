@@ -1,6 +1,6 @@
 -- The constant is the table, entry by entry.
 use mathlib.Core.Path.{refl}
-use Rattle.cosine.specs.program.Table.{table, entry}
+use Rattle.cosine.specs.program.Table.{table}
 use Rattle.cosine.proofs.CosineLaws.{tabulated}
 use Rattle.cosine.proofs.entries.Statement.{statement}
 use Rattle.cosine.proofs.entries.Tie as tie

@@ -4,7 +4,7 @@ use Prim.Native.Nat.{ℕ}
 use mathlib.Core.Path.{_∙_, sym, ap, ap₂}
 use mathlib.Core.List.{[], _∷_}
 use native.Mathlib.Omega.{arith}
-use Rattle.janssen.specs.program.Pressure.{computed, filling-by, filling}
+use Rattle.janssen.specs.program.Pressure.{computed, filling-by}
 use Rattle.janssen.specs.program.Prepare.{pressure-on}
 use Rattle.discharge.specs.Discharge.{magnified-load, C-b}
 use Rattle.loads.specs.declared.Basis.{Basis}

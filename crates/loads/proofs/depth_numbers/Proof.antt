@@ -5,7 +5,7 @@ use mathlib.Core.Path.{_∙_, ap, ap₂}
 use mathlib.Core.List.{[], _∷_}
 use Rattle.fraction.specs.Fraction.{_⊘_}
 use Rattle.janssen.specs.declared.FillingLoads.{FillingLoads}
-use Rattle.janssen.specs.program.Pressure.{filling-by, filling, wall-load-by}
+use Rattle.janssen.specs.program.Pressure.{filling-by, wall-load-by}
 use Rattle.janssen.specs.program.Prepare.{loads-on}
 use Rattle.discharge.specs.Discharge.{magnified-load, patch-load}
 use Rattle.loads.specs.declared.Basis.{Basis}

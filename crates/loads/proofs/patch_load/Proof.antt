@@ -3,7 +3,7 @@ use borrow.Author.Needs.{needs}
 use Prim.Native.Nat.{ℕ}
 use mathlib.Core.Path.{_∙_, ap, ap₂}
 use Rattle.fraction.specs.Fraction.{_⊘_}
-use Rattle.janssen.specs.program.Pressure.{filling-by, filling}
+use Rattle.janssen.specs.program.Pressure.{filling-by}
 use Rattle.janssen.specs.program.Prepare.{pressure-on}
 use Rattle.discharge.specs.Discharge.{magnified-load, patch-load}
 use Rattle.loads.specs.declared.Basis.{Basis}

@@ -1,5 +1,5 @@
 -- The answer list in an array of our own, and the page of it.
-use Prim.Native.Nat.{ℕ, _-_, _≤_}
+use Prim.Native.Nat.{ℕ, _≤_}
 use mathlib.Core.Path.{_≡_, ap₂, sym, _∙_}
 use mathlib.Core.List.{List}
 use borrow.Author.Needs.{needs}
