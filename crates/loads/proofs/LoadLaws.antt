@@ -120,28 +120,22 @@ module _ (c : Silo) (fits : Fits c) where
       patch-load-allowance (C-h c) (C-h-moderate .proper) (c .eccentricity) (d-c (c .section)) _ (C-h-moderate .most) dc-positive
       (fits .eccentricity-most) (filled-at horizontal depth d)
 
-  -- no load falls with the depth below the surface, nor with that below the brim, which z itself is
+  -- no load but z itself falls with the depth below the surface
   module _ (depth depth' : ℕ) (d : Reached c depth') where
     filling-down : {l : Load} → FillingLoad l → load-depth c depth ≤ load-depth c depth' → load-number computed c l depth ≤ load-number computed c l depth'
     filling-down o h = filling-more c c refl refl fits o depth depth' d h
 
-    rises-by : (l : Load) → load-depth c depth ≤ load-depth c depth' → (l ≡ listed-depth → depth ≤ depth') → load-number computed c l depth ≤ load-number computed c l depth'
-    rises-by listed-depth h g = g refl
-    rises-by p-hf h g = filling-down of-p-hf h
-    rises-by p-wf h g = filling-down of-p-wf h
-    rises-by p-vf h g = filling-down of-p-vf h
-    rises-by P-w h g = filling-down of-P-w h
-    rises-by p-he h g = magnified-load-mono (⪯-refl (C-h c) (C-h-moderate .proper)) (filling-down of-p-hf h)
-    rises-by p-we h g = magnified-load-mono (⪯-refl (C-w c) (C-w-moderate .proper)) (filling-down of-p-wf h)
-    rises-by p-p h g =
+    pub rises-below : (l : Load) → (l ≡ listed-depth → ⊥) → load-depth c depth ≤ load-depth c depth' → load-number computed c l depth ≤ load-number computed c l depth'
+    rises-below listed-depth n h = absurd (n refl)
+    rises-below p-hf n h = filling-down of-p-hf h
+    rises-below p-wf n h = filling-down of-p-wf h
+    rises-below p-vf n h = filling-down of-p-vf h
+    rises-below P-w n h = filling-down of-P-w h
+    rises-below p-he n h = magnified-load-mono (⪯-refl (C-h c) (C-h-moderate .proper)) (filling-down of-p-hf h)
+    rises-below p-we n h = magnified-load-mono (⪯-refl (C-w c) (C-w-moderate .proper)) (filling-down of-p-wf h)
+    rises-below p-p n h =
         patch-load-mono (c .eccentricity) (d-c (c .section)) dc-positive
         (magnified-load-mono (⪯-refl (C-h c) (C-h-moderate .proper)) (filling-down of-p-hf h))
-
-    pub rises-below : (l : Load) → (l ≡ listed-depth → ⊥) → load-depth c depth ≤ load-depth c depth' → load-number computed c l depth ≤ load-number computed c l depth'
-    rises-below l n h = rises-by l h (λ e. absurd (n e))
-
-    pub rises : (l : Load) → depth ≤ depth' → load-number computed c l depth ≤ load-number computed c l depth'
-    rises l h = rises-by l (load-depth-rises c depth depth' h) (λ e. h)
 
   -- and the bottom's, wherever they stand
   pub bottom-holds : (at : ℕ → ℕ) → ((k : ℕ) → k < 10 → at k ≡ getD (bottom-numbers computed c) k 0) → BottomHolds c at
