@@ -2,9 +2,12 @@
 
 use crate::csv::Dialect;
 use crate::description::Product;
+use crate::json;
 use crate::library::Refusal;
-use crate::name::{near, plain, Name};
+use crate::message::{Choice, Mend, Slip};
+use crate::name::{close, plain, Name};
 use crate::number::hundredths;
+use crate::report::PROGRAM;
 
 /// A row of table 7.1: the product's name, other names (those of the French table among them), and the table's notes.
 struct Row {
@@ -24,10 +27,10 @@ const PRODUCTS: [Row; 10] = [
     named("clinker", &[], ""),
     named("dry sand", &["sable sec"], "2"),
     named("flour", &["farine"], "1"),
-    named("fly ash", &["cendre volante", "cendres volantes"], "1"),
-    named("maize", &["corn", "maïs", "mais"], "1"),
+    named("fly ash", &["coal ash", "cendre volante", "cendres volantes"], "1"),
+    named("maize", &["corn", "mais"], "1"),
     named("sugar", &["sucre"], "1"),
-    named("wheat", &["blé", "ble"], ""),
+    named("wheat", &["ble"], ""),
     named("coal", &["charbon"], "1 2"),
 ];
 
@@ -46,20 +49,28 @@ other three.
 ";
 
 /// The row of a product's name.
-pub fn row(text: &str) -> Result<u32, String> {
+pub fn row(text: &str) -> Result<u32, Slip> {
     let written = plain(text);
     let called = |row: &Row| row.name == written || row.others.contains(&&*written);
-    match PRODUCTS.iter().position(called) {
-        Some(row) => Ok(row as u32),
-        None => {
-            let names = PRODUCTS.iter().map(|row| row.name);
-            let hint = near(&written, names.clone()).unwrap_or_else(|| {
-                let names = names.collect::<Vec<&str>>().join(", ");
-                format!("it has {names}; any other by its weight, ratio, friction and factor in place of product")
-            });
-            Err(format!("{text}: no product of the catalogue (table 7.1); {hint}"))
-        }
-    }
+    PRODUCTS.iter().position(called).map(|row| row as u32).ok_or_else(|| {
+        let names = PRODUCTS.iter().map(|row| row.name);
+        let others = PRODUCTS.iter().flat_map(|row| row.others).copied();
+        let near = match &close(&written, names.clone())[..] {
+            [] => close(&written, others),
+            near => near.to_vec(),
+        };
+        Slip::new(Choice::Product(names.collect())).with(near.into_iter().map(Mend::plain))
+    })
+}
+
+/// A name of a product or of a wall.
+pub fn is_name(text: &str) -> bool {
+    row(text).is_ok() || Wall::read(text).is_ok()
+}
+
+/// The name of a row's product.
+pub fn product(row: u32) -> &'static str {
+    PRODUCTS[row as usize].name
 }
 
 /// The walls of table 7.1, and walls for which it has no friction, in the text's own words.
@@ -71,23 +82,47 @@ pub enum Wall {
 }
 
 /// Words for walls of bolted, corrugated or galvanised sheets.
-const CORRUGATED: [&str; 5] = ["corrugated", "galvani", "bolted", "profiled", "ondul"];
+const CORRUGATED: [&str; 4] = ["corrugated", "galvani", "bolted", "profiled"];
+/// The same in French, as `plain` has them.
+const FRENCH: [&str; 5] = ["ondul", "nervur", "boulonn", "acier galva", "tole galva"];
 
 impl Wall {
-    pub fn read(text: &str) -> Result<Wall, String> {
+    pub fn read(text: &str) -> Result<Wall, Slip> {
         let written = plain(text);
         match &*written {
-            "steel" | "smooth steel" | "acier" => Ok(Wall::Steel),
-            "concrete" | "béton" | "beton" => Ok(Wall::Concrete),
+            "steel" | "smooth steel" | "acier" | "acier lisse" => Ok(Wall::Steel),
+            "concrete" | "beton" | "beton arme" => Ok(Wall::Concrete),
+            _ if FRENCH.iter().any(|word| written.contains(word)) => {
+                Ok(Wall::Corrugated("corrugated wall".to_string()))
+            }
             _ if CORRUGATED.iter().any(|word| written.contains(word)) => {
                 let noun = ["steel", "wall"].iter().any(|noun| written.ends_with(noun));
                 Ok(Wall::Corrugated(written + if noun { "" } else { " wall" }))
             }
-            _ => Err(format!("{text}: the wall is steel, concrete or corrugated")),
+            _ => Err(Slip::new(Choice::Wall).with(Wall::likely(&written).map(Mend::plain))),
         }
     }
 
-    fn word(&self) -> &str {
+    /// Table 7.1's wall that other words are for; none beside any word that may be for a smoother one.
+    fn likely(written: &str) -> Option<&'static str> {
+        const LIKE_STEEL: [&str; 6] = ["mild", "carbon", "plain", "welded", "structural", "wall"];
+        const LIKE_CONCRETE: [&str; 6] =
+            ["reinforced", "plain", "cast", "precast", "structural", "wall"];
+        let words: Vec<&str> = written.split([' ', ',', '-']).filter(|w| !w.is_empty()).collect();
+        let is_like = |wall: &str, like: &[&str]| {
+            words.contains(&wall) && words.iter().all(|word| *word == wall || like.contains(word))
+        };
+        if let [word] = words[..] {
+            return close(word, [WALLS[0], WALLS[1], CORRUGATED[0]].into_iter()).pop();
+        }
+        let [steel, concrete] = WALLS;
+        match is_like(steel, &LIKE_STEEL) {
+            true => Some(steel),
+            false => Some(concrete).filter(|wall| is_like(wall, &LIKE_CONCRETE)),
+        }
+    }
+
+    pub fn word(&self) -> &str {
         match self {
             Wall::Steel => WALLS[0],
             Wall::Concrete => WALLS[1],
@@ -122,18 +157,33 @@ impl Origin {
     pub fn shown(&self, product: &Product) -> String {
         let wall = self.wall.as_ref().map(|wall| format!("on {}", wall.word()));
         let Some(row) = self.row else {
-            let numbers = match name_of(product) {
-                Some(name) => format!("as table 7.1 {name}"),
-                None => "by its numbers".to_string(),
+            // a named wall that is another one is not the table's
+            let known = name_of(product).filter(|name| match &self.wall {
+                Some(wall) => name.ends_with(&format!(" on {}", wall.word())),
+                None => true,
+            });
+            return match (known, wall) {
+                (Some(name), _) => format!("as table 7.1 {name}"),
+                (None, Some(wall)) => format!("{wall}, by its numbers"),
+                (None, None) => "by its numbers".to_string(),
             };
-            return wall.into_iter().chain([numbers]).collect::<Vec<String>>().join(", ");
         };
-        let name = PRODUCTS[row as usize].name.to_string();
+        let name = self::product(row).to_string();
         let name = [name].into_iter().chain(wall).collect::<Vec<String>>().join(" ");
         let own: Vec<&str> = self.replaced.iter().map(|name| name.word()).collect();
         match own.is_empty() {
             true => format!("{name}, table 7.1"),
             false => format!("{name}, table 7.1 with own {}", own.join(" and ")),
+        }
+    }
+
+    /// The weight is neither that of the row that the text names nor part of four numbers that are a row's.
+    pub fn has_own_weight(&self, product: &Product) -> bool {
+        match self.row {
+            Some(row) => {
+                Origin::numbers(row, None).is_ok_and(|table| table.weight != product.weight)
+            }
+            None => name_of(product).is_none(),
         }
     }
 
@@ -160,14 +210,20 @@ pub fn name_of(product: &Product) -> Option<String> {
     None
 }
 
-/// A row's numbers as they are written: weight in N/m³, ratio, friction on steel and on concrete, factor. None past the last row.
-fn written(row: u32) -> Option<[String; 5]> {
+/// A row's numbers: weight in N/m³; ratio, friction on steel and on concrete and factor in hundredths. None past the last row.
+fn numbers(row: u32) -> Option<[u32; 5]> {
     let steel = Product::from_catalogue(row, STEEL).ok()?;
     let concrete = Product::from_catalogue(row, CONCRETE).ok()?;
-    let [ratio, on_steel, on_concrete, factor] =
-        [steel.ratio, steel.friction, concrete.friction, steel.factor]
-            .map(|number| hundredths(number.into()));
-    Some([steel.weight.to_string(), ratio, on_steel, on_concrete, factor])
+    let hundredths = [steel.ratio, steel.friction, concrete.friction, steel.factor];
+    let [ratio, on_steel, on_concrete, factor] = hundredths.map(u32::from);
+    Some([steel.weight, ratio, on_steel, on_concrete, factor])
+}
+
+/// The same as they are written.
+fn written(row: u32) -> Option<[String; 5]> {
+    let [weight, rest @ ..] = numbers(row)?;
+    let [ratio, on_steel, on_concrete, factor] = rest.map(|number| hundredths(number.into()));
+    Some([weight.to_string(), ratio, on_steel, on_concrete, factor])
 }
 
 /// Table 7.1.
@@ -217,5 +273,44 @@ pub fn csv(dialect: Dialect) -> String {
         let note = ["note".to_string(), number.to_string(), dialect.text(note)];
         page += &dialect.line(note.into_iter().chain([const { String::new() }; 5]));
     }
-    page
+    dialect.checked(page, HEAD.len())
+}
+
+/// Table 7.1 for a program.
+pub fn json() -> String {
+    let products =
+        (0..).zip(&PRODUCTS).map_while(|(row, product)| Some(product.json(row, numbers(row)?)));
+    let notes = NOTES.map(|(number, note)| {
+        let number = if number.is_empty() { "null" } else { number };
+        json::object(&[("number", number.to_string()), ("note", json::string(note))])
+    });
+    json::document(&[
+        ("program", json::string(PROGRAM)),
+        ("table", json::string("7.1")),
+        ("products", json::lines(products)),
+        ("notes", json::lines(notes.into_iter())),
+    ])
+}
+
+impl Row {
+    fn json(&self, row: u32, numbers: [u32; 5]) -> String {
+        const NAMES: [&str; 5] = [
+            "weight_n_per_m3",
+            "ratio_hundredths",
+            "friction_on_steel_hundredths",
+            "friction_on_concrete_hundredths",
+            "factor_hundredths",
+        ];
+        let list = |values: Vec<String>| format!("[{}]", values.join(", "));
+        let others = self.others.iter().map(|name| json::string(name)).collect();
+        let notes = self.note.split_whitespace().map(String::from).collect();
+        let names = [
+            ("row", row.to_string()),
+            ("name", json::string(self.name)),
+            ("other_names", list(others)),
+        ];
+        let numbers = NAMES.into_iter().zip(numbers.map(|number| number.to_string()));
+        let fields = names.into_iter().chain(numbers).chain([("notes", list(notes))]);
+        json::object(&fields.collect::<Vec<(&str, String)>>())
+    }
 }

@@ -1,13 +1,14 @@
 //! What a file holds: a silo's text, a sheet of bytes, or something else.
 
 use crate::files;
+use crate::message::{Bytes, Message, Slip};
 use crate::text;
 
 pub enum Content {
     Sheet,
     Text,
-    /// Another program's file or an output of this one: what it is, and what to do.
-    Foreign(String),
+    /// Another program's file or an output of this one.
+    Foreign(Bytes),
 }
 
 /// The first bytes of other programs' files. No sheet starts so: its first byte is 4 or 8.
@@ -54,13 +55,10 @@ impl Content {
     }
 }
 
-fn foreign(bytes: &[u8]) -> Option<String> {
+fn foreign(bytes: &[u8]) -> Option<Bytes> {
     match files::Kind::of(bytes) {
         Some(files::Kind::Sheet | files::Kind::Text) => return None,
-        Some(kind) => {
-            let what = kind.with_article();
-            return Some(format!("this is {what}; name the silo's text or sheet in its place"));
-        }
+        Some(kind) => return Some(Bytes::Output(kind.with_article())),
         None => (),
     }
     let starts = |start: &[u8]| bytes.starts_with(start);
@@ -68,7 +66,7 @@ fn foreign(bytes: &[u8]) -> Option<String> {
     let within = |part: &&[u8]| bytes.windows(part.len()).any(|window| window == *part);
     let archive = ARCHIVES.iter().find(|(part, _)| starts(FOREIGN[0].0) && within(part));
     let name = archive.map_or(name, |(_, name)| name);
-    Some(format!("this is {name}; save the silo as plain text"))
+    Some(Bytes::Foreign(name))
 }
 
 fn is_control(byte: &u8) -> bool {
@@ -84,22 +82,15 @@ fn is_silo(bytes: &[u8]) -> bool {
 }
 
 /// The text of bytes that hold one, or the line that does not.
-pub fn text(bytes: &[u8]) -> Result<&str, Vec<text::Error>> {
-    let at = |place: usize, message: String| {
+pub fn text(bytes: &[u8]) -> Result<&str, Vec<Message>> {
+    let at = |place: usize, slip: Bytes| {
         let line = 1 + bytes[..place].iter().filter(|byte| **byte == b'\n').count();
-        vec![text::Error { line: Some(line), message }]
+        vec![Message { line: Some(line), ..Message::new(Slip::new(slip)) }]
     };
-    let text = std::str::from_utf8(bytes).map_err(|error| {
-        at(error.valid_up_to(), "not UTF-8 text; save the file as UTF-8".to_string())
-    })?;
+    let text =
+        std::str::from_utf8(bytes).map_err(|error| at(error.valid_up_to(), Bytes::NotUtf8))?;
     match bytes.iter().position(is_control) {
-        Some(place) => Err(at(
-            place,
-            format!(
-                "control character {}; take it out, or save the file as plain text in UTF-8",
-                bytes[place]
-            ),
-        )),
+        Some(place) => Err(at(place, Bytes::Control(bytes[place]))),
         None => Ok(text),
     }
 }

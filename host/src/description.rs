@@ -122,6 +122,12 @@ impl Description {
         })
     }
 
+    /// The same silo with each strake's lower edge as a depth.
+    pub fn at_edges(&self) -> Description {
+        let depths = self.edges().map(|(_, edge)| edge as u32).collect();
+        Description { depths, ..self.clone() }
+    }
+
     /// V - g, of the grain at the wall, mm; 0 where the headroom leaves none.
     pub fn grain_height(&self) -> u64 {
         self.wall_height().saturating_sub(self.headroom.into())

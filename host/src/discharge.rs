@@ -33,7 +33,8 @@ impl Shape {
         }
     }
 
-    fn equations(self) -> &'static str {
+    /// Those of C_h and C_w.
+    pub fn equations(self) -> &'static str {
         match self {
             Shape::Slender => "5.23",
             Shape::Squat => "5.34, 5.35",

@@ -1,5 +1,5 @@
 //! The drawings: the silo to scale at the left, values at each strake's edge and on the bottom in
-//! the middle, pressures over depth at the right; or, at the right, the patch round the shell. Notes
+//! the middle, pressures over depth at the right; or, at the right, the patch of a circle. Notes
 //! and title block at the foot. Positions are worked out in floating point; every value that is
 //! written comes from the sheet or from the library.
 
@@ -7,53 +7,61 @@ mod block;
 mod chart;
 mod hopper;
 mod layout;
+mod made;
 mod shell;
 mod shown;
 mod silo;
+mod squares;
 mod svg;
 mod values;
 mod wrap;
 
 use crate::description::{Description, Section};
-use crate::library::{Loads, P_W};
+use crate::library::Loads;
 use crate::patch::Patch;
 use crate::report::{Report, BLANK_ANGLE};
 use layout::{Layout, LEFT, TABLE, TOP};
-use shown::{degrees, length, pressure};
+use shown::{degrees, length};
 use std::path::Path;
 use svg::{Svg, NOTE, TITLE};
 
-/// From the title's last line down to the brim: heads of table and chart, and the silo's width.
-const HEADS: f64 = 66.0;
+/// From the title's last line down to the brim: heads of table and chart, or the silo's dimensions alone.
+const HEADS: f64 = 97.0;
+const DIMENSIONS: f64 = 66.0;
 
 /// `curves` are the loads of the same silo at depths near to each other.
 pub fn page(report: &Report, loads: &Loads, curves: &Loads) -> String {
     let mut svg = Svg::default();
-    let mut sizes = sizes(report.silo);
-    sizes.extend(wall_load(report, curves));
-    let brim = title(&mut svg, report, &sizes) + HEADS;
-    let lowest = block::draw(&mut svg, report, report.notes()) - 10.0;
+    let brim = title(&mut svg, report, TABLE.1) + HEADS;
+    let notes = report.notes().into_iter().chain([made::by_hand(report)]);
+    let lowest = block::draw(&mut svg, report, notes.collect()) - 10.0;
     let layout = Layout::of(report.silo, brim, lowest);
     silo::draw(&mut svg, report.silo, &layout);
-    values::draw(&mut svg, report, &layout, (loads, curves));
+    silo::numbers(&mut svg, report.silo, &layout, &[]);
+    silo::numbers_beside(&mut svg, report.silo, &layout, &[]);
+    values::draw(&mut svg, report, &layout, loads);
     silo::headroom(&mut svg, report.silo, &layout);
     chart::draw(&mut svg, report, &layout, curves);
-    svg.page(&name(report), "")
+    svg.page(&name(report), report.file, "")
 }
 
-/// The patch round a shell.
+/// The patch of a circle.
 pub fn patch(patch: &Patch) -> String {
     let report = &patch.report;
     let mut svg = Svg::default();
-    let below = title(&mut svg, report, &sizes(report.silo));
+    let below = title(&mut svg, report, shell::FACTS - 8.0);
     let top = shell::facts(&mut svg, patch).max(below) + 24.0;
     let lowest = block::draw(&mut svg, report, patch.notes()) - 10.0;
-    let layout = Layout::beside(report.silo, below + HEADS, lowest);
+    let layout = Layout::beside(report.silo, shell::SILO, below + DIMENSIONS, lowest);
     silo::draw(&mut svg, report.silo, &layout);
-    shell::band(&mut svg, patch, &layout);
+    let edges = shell::band(&mut svg, patch, &layout);
+    silo::numbers(&mut svg, report.silo, &layout, &edges);
+    let [brim, middle] = [0, patch.depth].map(|depth| layout.silo_y(depth.into()));
+    let lines = [brim, middle, (edges[0] + edges[1]) / 2.0];
+    silo::numbers_beside(&mut svg, report.silo, &layout, &lines);
     silo::headroom(&mut svg, report.silo, &layout);
     shell::plan(&mut svg, patch, top, lowest);
-    svg.page(&name(report), shell::STYLE)
+    svg.page(&name(report), report.file, shell::STYLE)
 }
 
 /// The file's name without its ending.
@@ -62,19 +70,22 @@ fn name(report: &Report) -> String {
     stem.unwrap_or_else(|| "silo".to_string())
 }
 
-/// The name, product, kind and sizes; the last line's height. A name that is too long for a line stands
-/// in the title block alone.
-fn title(svg: &mut Svg, report: &Report, sizes: &[String]) -> f64 {
-    let (name, most) = (name(report), TABLE.1 - LEFT);
+/// The name, product, kind and sizes, as far as `right`; the last line's height. A name that is too long
+/// for a line stands in the title block alone.
+fn title(svg: &mut Svg, report: &Report, right: f64) -> f64 {
+    let (name, most) = (name(report), right - LEFT);
     // bold letters are up to a fifth wider
     if 1.2 * wrap::width(&name, TITLE) <= most {
         svg.plain("start title", (LEFT, TOP + 15.0), &name);
     }
     let mut y = TOP + 17.0;
-    let sizes = sizes.iter().map(|part| part.replace(' ', "\u{a0}")).collect::<Vec<String>>();
-    let product = report.product().replace(BLANK_ANGLE, &BLANK_ANGLE.replace(' ', "\u{a0}"));
-    for text in [product, report.discharge().shown(), sizes.join(", ")] {
-        for line in wrap::lines(&text, NOTE, most) {
+    let sizes = sizes(report.silo).into_iter().map(|part| part.replace(' ', "\u{a0}"));
+    let product = [BLANK_ANGLE, " N/m3", "Ks ", "mu ", "C0 "]
+        .iter()
+        .fold(report.product(), |text, part| text.replace(part, &part.replace(' ', "\u{a0}")));
+    let sizes = sizes.collect::<Vec<String>>().join(", ");
+    for text in [product, report.discharge().shown(), sizes] {
+        for line in wrap::lines(&text, NOTE, |_| most) {
             y += 14.5;
             svg.text("start note", (LEFT, y), &line);
         }
@@ -107,11 +118,4 @@ fn sizes(silo: &Description) -> Vec<String> {
         format!("e_o {}", length(silo.outlet_eccentricity)),
     ]);
     parts
-}
-
-/// What the wall carries down at its foot.
-fn wall_load(report: &Report, curves: &Loads) -> Option<String> {
-    let foot = curves.rows().last()?;
-    let load = pressure(report.units, foot[P_W]);
-    Some(format!("P_w at the wall's foot {load} {}", report.units.per_metre()))
 }

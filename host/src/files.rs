@@ -1,10 +1,18 @@
 //! The files that a command reads and writes, so that none is lost.
 
+mod held;
 mod kind;
+mod meant;
+mod replace;
+mod silo;
 mod target;
 
 pub use kind::Kind;
-pub use target::Target;
+pub use meant::meant;
+pub use target::{stays, Target};
+
+use held::{Held, Replacement};
+use silo::{Silo, STANDARD_INPUT};
 
 use std::ffi::OsStr;
 use std::fs::{File, Metadata};
@@ -17,6 +25,8 @@ const LONGEST_FILE: u64 = 1 << 20;
 
 /// A file that is open for reading.
 pub struct Input {
+    /// As messages and outputs show it.
+    pub name: String,
     file: File,
     /// None where it is no regular file, such as a pipe.
     identity: Option<Identity>,
@@ -34,6 +44,14 @@ fn stream(stream: impl AsFd) -> io::Result<File> {
     Ok(File::from(stream.as_fd().try_clone_to_owned()?))
 }
 
+/// The name of a file as messages show it; `-` is standard input.
+pub fn shown(name: &OsStr) -> String {
+    match name == "-" {
+        true => STANDARD_INPUT.to_string(),
+        false => name.to_string_lossy().into_owned(),
+    }
+}
+
 impl Input {
     /// `-` is standard input. An error is in words.
     pub fn open(name: &OsStr) -> Result<Input, String> {
@@ -45,7 +63,7 @@ impl Input {
         let metadata = file.metadata().map_err(|error| unreadable(&error))?;
         match metadata.is_dir() {
             true => Err("a folder, where a file is due".to_string()),
-            false => Ok(Input { file, identity: identity(&metadata) }),
+            false => Ok(Input { name: shown(name), file, identity: identity(&metadata) }),
         }
     }
 

@@ -1,71 +1,58 @@
 //! The records of a sheet of bytes: where a record or a number stands, and where the form goes wrong.
 
 use crate::description::{u16_at, Description, Section, HEADER};
+use crate::message::{words, Bytes, Record};
 use crate::name::Name;
 use crate::place::Field;
 
-/// The records due, with the kinds that each may have. A sheet may end before the last.
-const RECORDS: [(&str, &[u16]); 7] = [
-    ("circle or rectangle", &[1, 2]),
-    ("product", &[3]),
-    ("filling", &[4]),
-    ("bottom", &[5]),
-    ("strakes", &[6]),
-    ("depths", &[7]),
-    ("headroom", &[8]),
-];
+/// The kinds that each record may have: section, product, filling, bottom, strakes, depths, headroom. A sheet may end before the last.
+const KINDS: [&[u16]; 7] = [&[1, 2], &[3], &[4], &[5], &[6], &[7], &[8]];
 
-/// Payload lengths that a kind allows, in words.
-fn lengths(kind: u16) -> (fn(usize) -> bool, &'static str) {
+/// A kind allows a payload of so many bytes.
+fn allows(kind: u16, length: usize) -> bool {
     match kind {
-        1 | 8 => (|n| n == 4, "4"),
-        2 | 4 | 5 => (|n| n == 8, "8"),
-        3 => (|n| n == 10, "10"),
-        6 => (|n| n % 2 == 0 && (2..=48).contains(&n), "2 for each of 1 to 24 strakes"),
-        _ => (|n| n % 4 == 0 && (4..=800).contains(&n), "4 for each of 1 to 200 depths"),
+        1 | 8 => length == 4,
+        2 | 4 | 5 => length == 8,
+        3 => length == 10,
+        6 => length.is_multiple_of(2) && (2..=48).contains(&length),
+        _ => length.is_multiple_of(4) && (4..=800).contains(&length),
     }
 }
 
 /// What is wrong with the records of a sheet that the library has refused for its form.
-pub fn fault(sheet: &[u8]) -> Option<String> {
+pub fn fault(sheet: &[u8]) -> Option<Bytes> {
     if sheet.is_empty() {
-        return Some("the file is empty".to_string());
+        return Some(Bytes::EmptyFile);
     }
     if sheet.len() > 1024 {
-        return Some(format!("{} bytes; a sheet has at most 1024", sheet.len()));
+        return Some(Bytes::SheetTooLong(sheet.len()));
     }
     let mut at = 0;
-    for (i, (name, kinds)) in RECORDS.iter().enumerate() {
-        let record = format!("record {} ({name}) at byte {at}", i + 1);
+    for (record, kinds) in KINDS.iter().enumerate() {
         match record_fault(&sheet[at..], kinds) {
             Ok(length) => at += length,
-            Err(why) if i + 1 == RECORDS.len() => {
-                return Some(format!("{record}: {why}; without headroom a sheet ends before it"))
-            }
-            Err(why) => return Some(format!("{record}: {why}")),
+            Err(fault) => return Some(Bytes::Record { record, at, fault }),
         }
     }
-    let left = sheet.len() - at;
-    (left > 0).then(|| format!("{left} bytes left over from byte {at} on"))
+    let count = sheet.len() - at;
+    (count > 0).then_some(Bytes::LeftOver { count, from: at })
 }
 
 /// The bytes of the record at the front, or what is wrong with it.
-fn record_fault(rest: &[u8], kinds: &[u16]) -> Result<usize, String> {
+fn record_fault(rest: &[u8], due: &'static [u16]) -> Result<usize, Record> {
     if rest.len() < HEADER {
-        return Err(format!("a header has {HEADER} bytes, and {} are left", rest.len()));
+        return Err(Record::Header(rest.len()));
     }
     let (length, kind) = (usize::from(u16_at(rest, 0)), u16_at(rest, 2));
-    if !kinds.contains(&kind) {
-        let due: Vec<String> = kinds.iter().map(u16::to_string).collect();
-        return Err(format!("kind {kind}, where kind {} is due", due.join(" or ")));
+    if !due.contains(&kind) {
+        return Err(Record::Kind { kind, due });
     }
-    let (allowed, words) = lengths(kind);
-    if !allowed(length) {
-        return Err(format!("a payload of {length} bytes; kind {kind} has {words}"));
+    if !allows(kind, length) {
+        return Err(Record::Length { length, kind });
     }
     let left = rest.len() - HEADER;
     if left < length {
-        return Err(format!("a payload of {length} bytes, and {left} are left"));
+        return Err(Record::Payload { length, left });
     }
     Ok(HEADER + length)
 }
@@ -97,6 +84,5 @@ pub fn position(silo: &Description, field: Field) -> String {
         // the section; a sheet has no other names
         _ => (0, 0),
     };
-    let byte = start(record) + offset;
-    format!("byte {byte}, record {} ({})", record + 1, RECORDS[record].0)
+    words::byte(start(record) + offset, record)
 }

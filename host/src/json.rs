@@ -1,8 +1,16 @@
-//! The loads as JSON.
+//! The loads and the patch as JSON.
+
+mod made;
+mod patch;
+
+pub use made::made_with;
+pub use patch::patch;
 
 use crate::description::Section;
+use crate::doubt::Doubt;
 use crate::library::Loads;
 use crate::report::{Report, PROGRAM};
+use crate::strake::strakes;
 use crate::units::Units;
 
 pub fn string(text: &str) -> String {
@@ -15,6 +23,11 @@ pub fn string(text: &str) -> String {
         }
     }
     quoted + "\""
+}
+
+/// A value that may be missing.
+pub fn or_null(written: Option<String>) -> String {
+    written.unwrap_or("null".to_string())
 }
 
 /// An object on one line.
@@ -42,6 +55,9 @@ fn numbers<T: ToString>(values: &[T]) -> String {
     format!("[{}]", values.iter().map(T::to_string).collect::<Vec<String>>().join(", "))
 }
 
+/// The sum of p_he and p_p.
+const WITH_PATCH: &str = "p_he_plus_p_p";
+
 pub fn page(report: &Report, loads: &Loads) -> String {
     let Report { silo, units, .. } = report;
     let columns = report.columns();
@@ -53,29 +69,55 @@ pub fn page(report: &Report, loads: &Loads) -> String {
         true => ("floor", units.show(loads.floor())),
         false => ("hopper", lines(loads.hopper().map(|quarter| object(&slope(quarter, *units))))),
     };
-    let strakes = silo.edges().zip(loads.strakes()).map(|((height, edge), load)| {
-        let [height, edge] = [u64::from(height), edge].map(|length| length.to_string());
-        object(&[("height", height), ("lower_edge", edge), ("p_he", units.show(*load))])
+    let strakes = strakes(report, loads).into_iter().map(|strake| {
+        object(&[
+            ("height", strake.height.to_string()),
+            ("lower_edge", strake.edge.to_string()),
+            ("p_he", units.show(strake.p_he)),
+            ("p_p", units.show(strake.p_p)),
+            (WITH_PATCH, units.show(strake.with_patch())),
+        ])
     });
-    let labels = report.labels.iter().map(|(name, text)| (*name, string(text)));
     let notes = report.notes();
     document(&[
         ("program", string(PROGRAM)),
         ("file", string(report.file)),
-        ("labels", object(&labels.collect::<Vec<(&str, String)>>())),
+        ("labels", labels(report)),
         ("silo", description(report)),
         ("units", object(&units_of(report))),
         ("depths", lines(rows)),
         bottom,
         ("strakes", lines(strakes)),
+        ("made_with", made_with(silo)),
+        ("by_hand", made::by_hand(report)),
+        ("order", made::order(report, loads)),
+        ("checklist", made::checklist(report, loads)),
         ("notes", lines(notes.iter().map(|note| string(note)))),
+        ("doubts", doubts(report)),
     ])
+}
+
+/// The order's own lines.
+fn labels(report: &Report) -> String {
+    let labels = report.labels.iter().map(|(name, text)| (*name, string(text)));
+    object(&labels.collect::<Vec<(&str, String)>>())
+}
+
+/// What is improbable, an object each.
+pub fn doubts(report: &Report) -> String {
+    lines(report.doubts().iter().map(|doubt| object(&doubt_fields(doubt))))
+}
+
+/// Code, name of the line and words.
+pub fn doubt_fields(doubt: &Doubt) -> [(&'static str, String); 3] {
+    [("code", doubt.code), ("name", doubt.name.word()), ("words", &*doubt.words)]
+        .map(|(name, text)| (name, string(text)))
 }
 
 /// The unit of each number behind the description.
 fn units_of(report: &Report) -> Vec<(&'static str, String)> {
     let pressure = report.units.pressure();
-    let more = ["floor", "P_n", "P_t"].map(|name| (name, pressure));
+    let more = ["floor", "P_n", "P_t", WITH_PATCH, "p_vf_at_foot"].map(|name| (name, pressure));
     let lengths = ["height", "lower_edge"].map(|name| (name, "mm"));
     let all = report.columns().into_iter().chain(more).chain(lengths);
     all.map(|(name, unit)| (name, string(unit))).collect()

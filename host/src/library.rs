@@ -154,8 +154,15 @@ pub fn governing<'a>(first: &'a [u32], second: &'a [u32]) -> &'a [u32] {
 
 /// Numbers of a depth's row: z (mm), p_hf, p_wf, p_vf (Pa), P_w (N/m), p_he, p_we, p_p (Pa).
 pub const ROW: usize = 8;
-/// The place of P_w in a row.
+/// Places in a row.
+pub const Z: usize = 0;
+pub const P_HF: usize = 1;
+pub const P_WF: usize = 2;
+pub const P_VF: usize = 3;
 pub const P_W: usize = 4;
+pub const P_HE: usize = 5;
+pub const P_WE: usize = 6;
+pub const P_P: usize = 7;
 /// Numbers of the bottom: floor and nine zeros, or P_n and P_t at k = 0..4 (Pa).
 pub const BOTTOM: usize = 10;
 
@@ -171,6 +178,13 @@ impl Loads {
         let mut answers = lent(answers_length(sheet));
         fill_loads(sheet, &mut answers)?;
         Ok(Loads { answers, strakes })
+    }
+
+    /// The same with another number at a place of the list.
+    #[cfg(test)]
+    pub fn with(mut self, place: usize, number: impl Fn(u32) -> u32) -> Loads {
+        self.answers[place] = number(self.answers[place]);
+        self
     }
 
     fn parts(&self) -> (&[u32], &[u32], &[u32]) {

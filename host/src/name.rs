@@ -1,5 +1,7 @@
 //! The names that start a line of the text form.
 
+use crate::message::Elsewhere;
+
 #[derive(Clone, Copy, Debug, PartialEq, Eq)]
 pub enum Name {
     Diameter,
@@ -20,6 +22,7 @@ pub enum Name {
     Strakes,
     Depths,
     Headroom,
+    Stiffeners,
     Project,
     Customer,
     Place,
@@ -33,7 +36,7 @@ pub enum Name {
 struct Row {
     name: Name,
     word: &'static str,
-    /// ENV's symbol and common words, as `plain` has them; one letter is taken as it stands.
+    /// ENV's symbol and common words, then the French ones, as `plain` has them; one letter is taken as it stands.
     others: &'static [&'static str],
     example: &'static str,
     limits: &'static str,
@@ -53,92 +56,222 @@ const SIDE: &str = "500 to 50000 mm";
 const ECCENTRICITY: &str = "at most a quarter of the diameter or shorter side";
 
 /// In the order of `Name`: the sheet's numbers, then what a text says of the order.
-const NAMES: [Row; 25] = [
-    row(Name::Diameter, "diameter", &["d", "D", "inside diameter"], "diameter = 5000 mm", SIDE),
-    row(Name::Sides, "sides", &["a x b"], "sides = 4000 x 6000 mm", "500 to 50000 mm each"),
-    row(Name::Product, "product", &["grain"], "product = wheat", ""),
-    row(Name::Wall, "wall", &[], "wall = steel", ""),
+const NAMES: [Row; 26] = [
+    row(
+        Name::Diameter,
+        "diameter",
+        &["d", "D", "inside diameter", "diametre", "diametre interieur"],
+        "diameter = 5000 mm",
+        SIDE,
+    ),
+    row(
+        Name::Sides,
+        "sides",
+        &["a x b", "cotes"],
+        "sides = 4000 x 6000 mm",
+        "500 to 50000 mm each",
+    ),
+    row(
+        Name::Product,
+        "product",
+        &["grain", "produit", "matiere", "matiere ensilee", "cereale"],
+        "product = wheat",
+        "",
+    ),
+    row(Name::Wall, "wall", &["paroi", "parois", "mur"], "wall = steel", ""),
     row(
         Name::Weight,
         "weight",
-        &["γ", "gamma", "unit weight", "density"],
+        &[
+            "γ",
+            "gamma",
+            "unit weight",
+            "density",
+            "poids",
+            "poids volumique",
+            "masse volumique",
+            "bulk density",
+            "bulk weight",
+            "test weight",
+        ],
         "weight = 9.0 kN/m3",
         "1000 to 30000 N/m3",
     ),
-    row(Name::Ratio, "ratio", &["ks", "k s", "K"], "ratio = 0.55", "0.20 to 1.00"),
+    row(
+        Name::Ratio,
+        "ratio",
+        &[
+            "ks",
+            "k s",
+            "K",
+            "rapport",
+            "rapport de pression",
+            "rapport de pressions",
+            "rapport des pressions",
+        ],
+        "ratio = 0.55",
+        "0.20 to 1.00",
+    ),
     row(
         Name::Friction,
         "friction",
-        &["μ", "µ", "mu", "wall friction"],
-        "friction = 0.30",
+        &[
+            "μ",
+            "µ",
+            "mu",
+            "wall friction",
+            "frottement",
+            "frottement sur la paroi",
+            "coefficient de frottement",
+            "coefficient de frottement sur la paroi",
+            "wall friction angle",
+            "angle of wall friction",
+        ],
+        "friction =",
         "0.10 to 1.00",
     ),
     row(
         Name::Factor,
         "factor",
-        &["c0", "c 0", "c₀", "co", "c o", "discharge factor"],
-        "factor = 1.30",
+        &[
+            "c0",
+            "c 0",
+            "c₀",
+            "co",
+            "c o",
+            "discharge factor",
+            "facteur",
+            "coefficient d'amplification",
+            "coefficient maximal d'amplification",
+            "amplification",
+        ],
+        "factor =",
         "1.00 to 2.00, or blank for 1.55 (7.4 at 40 degrees)",
     ),
     row(
         Name::FillingEccentricity,
         "filling eccentricity",
-        &["e i", "ei", "eᵢ"],
+        &[
+            "e i",
+            "ei",
+            "eᵢ",
+            "excentricite de remplissage",
+            "excentricite du remplissage",
+            "excentrement de remplissage",
+        ],
         "filling eccentricity = 0 mm",
         ECCENTRICITY,
     ),
     row(
         Name::OutletEccentricity,
         "outlet eccentricity",
-        &["e o", "eo", "eₒ"],
+        &[
+            "e o",
+            "eo",
+            "eₒ",
+            "excentricite de vidange",
+            "excentricite de la vidange",
+            "excentricite de sortie",
+            "excentrement de vidange",
+        ],
         "outlet eccentricity = 0 mm",
         ECCENTRICITY,
     ),
-    row(Name::Floor, "floor", &[], "floor = flat", ""),
-    row(Name::HopperHeight, "hopper height", &["H"], "hopper height = 3000 mm", "at most 25000 mm"),
+    row(Name::Floor, "floor", &["fond", "plancher"], "floor = flat", ""),
+    row(
+        Name::HopperHeight,
+        "hopper height",
+        &["H", "hauteur de tremie", "hauteur de la tremie", "hauteur tremie", "cone height"],
+        "hopper height = 3000 mm",
+        "at most 25000 mm",
+    ),
     row(
         Name::HopperRun,
         "hopper run",
-        &["r"],
+        &[
+            "r",
+            "deport de tremie",
+            "deport de la tremie",
+            "projection de tremie",
+            "retrait de tremie",
+        ],
         "hopper run = 1700 mm",
         "under half the diameter or shorter side",
     ),
     row(
         Name::HopperAngle,
         "hopper angle",
-        &["α", "alpha"],
+        &[
+            "α",
+            "alpha",
+            "angle de tremie",
+            "angle de la tremie",
+            "pente de tremie",
+            "pente de la tremie",
+            "inclinaison de tremie",
+            "cone angle",
+        ],
         "hopper angle = 45 deg",
         "over 20 and under 90 degrees from the horizontal",
     ),
     row(
         Name::OutletWidth,
         "outlet width",
-        &["outlet diameter"],
+        &[
+            "outlet diameter",
+            "largeur d'orifice",
+            "largeur de l'orifice",
+            "largeur de sortie",
+            "largeur de vidange",
+            "diametre d'orifice",
+            "diametre de l'orifice",
+            "diametre de sortie",
+            "diametre de vidange",
+        ],
         "outlet width = 600 mm",
         "over 0 and under the diameter or shorter side",
     ),
     row(
         Name::Strakes,
         "strakes",
-        &["rings", "courses"],
+        &["rings", "courses", "viroles"],
         "strakes = 8 x 1200 mm",
         "1 to 24 strakes of 200 to 3000 mm",
     ),
-    row(Name::Depths, "depths", &["z"], "depths = every 500 mm", "1 to 200 depths, rising"),
+    row(
+        Name::Depths,
+        "depths",
+        &["z", "profondeurs"],
+        "depths = every 500 mm",
+        "1 to 200 depths, rising",
+    ),
     row(
         Name::Headroom,
         "headroom",
-        &["g", "head room", "freeboard", "ullage"],
+        &["g", "head room", "freeboard", "ullage", "creux", "revanche", "garde", "hauteur libre"],
         "headroom = 300 mm",
         "under the wall's height, the sum of the strakes, or blank",
     ),
-    row(Name::Project, "project", &[], "", ""),
-    row(Name::Customer, "customer", &[], "", ""),
-    row(Name::Place, "place", &[], "", ""),
-    row(Name::Author, "author", &[], "", ""),
+    row(
+        Name::Stiffeners,
+        "stiffeners",
+        &["ring stiffeners", "stiffener", "raidisseurs", "raidisseur"],
+        "stiffeners = yes",
+        "yes or no",
+    ),
+    row(Name::Project, "project", &["projet", "affaire", "job", "title", "titre"], "", ""),
+    row(Name::Customer, "customer", &["client"], "", ""),
+    row(Name::Place, "place", &["lieu", "site", "chantier"], "", ""),
+    row(Name::Author, "author", &["auteur", "redacteur", "drawn by"], "", ""),
     row(Name::Date, "date", &[], "", ""),
-    row(Name::Revision, "revision", &[], "", ""),
-    row(Name::Note, "note", &[], "", ""),
+    row(Name::Revision, "revision", &["indice", "rev"], "", ""),
+    row(
+        Name::Note,
+        "note",
+        &["remarque", "remarques", "notes", "remark", "remarks", "comment", "comments"],
+        "",
+        "",
+    ),
 ];
 
 pub const COUNT: usize = NAMES.len();
@@ -155,18 +288,94 @@ pub const LABELS: [(Name, usize); 7] = [
 ];
 
 /// Names that a person may expect, and what says it here.
-const ELSEWHERE: [(&[&str], &str); 4] = [
+const ELSEWHERE: [(&[&str], Elsewhere); 27] = [
+    (&["internal friction", "angle of internal friction"], Elsewhere::InternalFriction),
+    (&["internal friction angle", "friction angle", "phi", "φ"], Elsewhere::InternalFriction),
+    (&["frottement interne", "angle de frottement interne"], Elsewhere::InternalFriction),
+    (&["strake height", "number of strakes", "strake count"], Elsewhere::CountOfStrakes),
+    (&["nombre de viroles", "hauteur de virole"], Elsewhere::CountOfStrakes),
+    (&["strakes (bottom first)", "strakes bottom first", "strakes bottom up"], Elsewhere::TopFirst),
+    (&["strakes from bottom", "strakes from the bottom"], Elsewhere::TopFirst),
+    (&["viroles de bas en haut", "viroles depuis le bas"], Elsewhere::TopFirst),
     (
-        &["height", "wall height", "silo height", "total height", "h", "v"],
-        "the wall's height is the sum of its strakes; leave the line out",
+        &[
+            "thickness",
+            "plate thickness",
+            "sheet thickness",
+            "wall thickness",
+            "steel grade",
+            "grade",
+            "roof",
+            "capacity",
+            "volume",
+            "tonnage",
+            "moisture",
+            "temperature",
+            "epaisseur",
+            "capacite",
+            "toit",
+        ],
+        Elsewhere::Nothing,
     ),
-    (&["width", "length"], "write diameter = 5000 mm or sides = 4000 x 6000 mm"),
-    (&["bottom"], "write floor = flat, or a hopper by hopper height and hopper run"),
-    (
-        &["fill level", "filling level", "heap", "surcharge", "angle of repose"],
-        "the grain is taken as level with the brim, or below it by headroom = 300 mm; leave the line out",
-    ),
+    (&["height", "wall height", "silo height", "total height", "h", "v"], Elsewhere::Height),
+    (&["hauteur", "hauteur de paroi", "hauteur du silo", "hauteur totale"], Elsewhere::Height),
+    (&["width", "length", "side", "largeur", "longueur", "cote"], Elsewhere::Width),
+    (&["radius", "inside radius", "rayon", "rayon interieur"], Elsewhere::Radius),
+    (&["bottom"], Elsewhere::Bottom),
+    (&["fill level", "filling level", "level"], Elsewhere::Level),
+    (&["niveau", "niveau de remplissage"], Elsewhere::Level),
+    (&["angle of repose", "repose angle", "repose", "angle de talus"], Elsewhere::Heap),
+    (&["heap", "surcharge", "talus", "overfill", "crown", "cone of grain"], Elsewhere::Heap),
+    (&["heap above brim", "grain above brim", "above brim", "depassement"], Elsewhere::Heap),
+    (&["partial factor", "safety factor", "load factor", "factor uls"], Elsewhere::PartialFactor),
+    (&["gamma f", "gamma q", "facteur de charge", "facteur partiel"], Elsewhere::PartialFactor),
+    (&["coefficient de securite", "coefficient partiel"], Elsewhere::PartialFactor),
+    (&["mean weight", "weight mean", "average weight"], Elsewhere::MeanWeight),
+    (&["poids moyen", "poids volumique moyen", "measured weight"], Elsewhere::MeanWeight),
+    (&["hopper angle from vertical", "hopper half angle", "half angle"], Elsewhere::FromVertical),
+    (&["apex angle", "demi angle", "demi angle au sommet"], Elsewhere::FromVertical),
+    (&["fill height", "filling height", "grain height"], Elsewhere::Level),
 ];
+
+/// Words beside friction or ratio for a value that is not the mean.
+const EXTREMES: [&str; 25] = [
+    "haut",
+    "bas",
+    "characteristic",
+    "char",
+    "design",
+    "minimal",
+    "maximal",
+    "faible",
+    "fort",
+    "inferieur",
+    "superieur",
+    "low",
+    "lower",
+    "lowest",
+    "min",
+    "minimum",
+    "least",
+    "inf",
+    "high",
+    "higher",
+    "highest",
+    "upper",
+    "max",
+    "maximum",
+    "sup",
+];
+
+/// A friction or ratio that is said to be low or high.
+fn extreme(plain: &str) -> Option<Elsewhere> {
+    let (extremes, name): (Vec<&str>, Vec<&str>) =
+        plain.split(' ').partition(|word| EXTREMES.contains(word));
+    match Name::find(&name.join(" ")) {
+        Some(Name::Friction) if !extremes.is_empty() => Some(Elsewhere::MeanFriction),
+        Some(Name::Ratio) if !extremes.is_empty() => Some(Elsewhere::MeanRatio),
+        _ => None,
+    }
+}
 
 impl Name {
     pub fn word(self) -> &'static str {
@@ -175,6 +384,17 @@ impl Name {
 
     pub fn example(self) -> &'static str {
         NAMES[self as usize].example
+    }
+
+    /// Lines that say it without a number of anybody's.
+    pub fn choices(self) -> &'static [&'static str] {
+        match self {
+            Name::Wall => &["wall = steel", "wall = concrete", "wall = corrugated"],
+            Name::Factor => &["factor ="],
+            Name::Floor => &["floor = flat"],
+            Name::Depths => &["depths = strake edges"],
+            _ => &[],
+        }
     }
 
     pub fn limits(self) -> &'static str {
@@ -197,43 +417,98 @@ impl Name {
     }
 }
 
-/// What a person may have meant by an unknown name, in words, and the name where it is one.
-pub fn meant(text: &str) -> (String, Option<Name>) {
+/// What a person may have meant by an unknown name: what is said elsewhere, or names that are near.
+pub fn meant(text: &str) -> (Option<Elsewhere>, Vec<Name>) {
     let plain = plain(text);
     let plain = plain.as_str();
-    let elsewhere = ELSEWHERE.iter().find(|(names, _)| names.contains(&plain));
-    let words = NAMES.iter().map(|row| row.word);
-    let of_the_silo = words.clone().take(COUNT - LABELS.len());
-    let labels = LABELS.iter().map(|(name, _)| name.word());
-    let close = close(plain, words);
-    let mend = match (elsewhere, &close[..]) {
-        (Some((_, mend)), _) => mend.to_string(),
-        (None, []) => format!("{}, or, for all outputs, {}", choice(of_the_silo), listed(labels)),
-        (None, close) => did_you_mean(close),
-    };
-    let name = match (elsewhere, &close[..]) {
-        (None, [word]) => Name::find(word),
-        _ => None,
-    };
-    (mend, name)
+    let said = ELSEWHERE.iter().find(|(names, _)| names.contains(&plain));
+    match said.map(|(_, elsewhere)| *elsewhere).or_else(|| extreme(plain)) {
+        Some(elsewhere) => (Some(elsewhere), Vec::new()),
+        None => {
+            let others = NAMES.iter().flat_map(|row| row.others).filter(|other| other.len() > 3);
+            let close = match &close(plain, NAMES.iter().map(|row| row.word))[..] {
+                [] => self::close(plain, others.copied()),
+                words => words.to_vec(),
+            };
+            let mut names: Vec<Name> = close.into_iter().filter_map(Name::find).collect();
+            names.dedup();
+            (None, names)
+        }
+    }
 }
 
-/// Small letters without accents set apart, single spaces, `_` and `-` as spaces.
+/// A word for nothing, or for the middle.
+pub fn is_none(text: &str) -> bool {
+    const WORDS: [&str; 25] = [
+        "brim",
+        "full",
+        "level",
+        "none",
+        "no",
+        "nil",
+        "zero",
+        "without",
+        "0",
+        "flat",
+        "centre",
+        "center",
+        "central",
+        "centred",
+        "centered",
+        "middle",
+        "axis",
+        "on axis",
+        "on the axis",
+        "aucun",
+        "aucune",
+        "non",
+        "sans",
+        "axe",
+        "plat",
+    ];
+    let plain = plain(text);
+    WORDS.contains(&&*plain) || plain.starts_with("centr")
+}
+
+/// Every name, those of the order last.
+pub fn all() -> String {
+    let of_the_silo = NAMES.iter().map(|row| row.word).take(COUNT - LABELS.len());
+    let labels = LABELS.iter().map(|(name, _)| name.word());
+    format!("{}, or, for all outputs, {}", choice(of_the_silo), listed(labels))
+}
+
+/// Letters with an accent, and the same without.
+const ACCENTS: [(&str, &str); 9] = [
+    ("àâäá", "a"),
+    ("ç", "c"),
+    ("éèêë", "e"),
+    ("îïí", "i"),
+    ("ôöó", "o"),
+    ("ùûüú", "u"),
+    ("œ", "oe"),
+    ("’", "'"),
+    ("_-", " "),
+];
+
+/// Small letters without accents, single spaces, `_` and `-` as spaces.
 pub fn plain(text: &str) -> String {
     let accent = |c: &char| ('\u{300}'..='\u{36f}').contains(c);
-    let letters: String = text.to_lowercase().chars().filter(|c| !accent(c)).collect();
-    letters.replace(['_', '-'], " ").split_whitespace().collect::<Vec<&str>>().join(" ")
+    let mut letters = String::new();
+    for c in text.to_lowercase().chars().filter(|c| !accent(c)) {
+        match ACCENTS.iter().find(|(accents, _)| accents.contains(c)) {
+            Some((_, plain)) => letters += plain,
+            None => letters.push(c),
+        }
+    }
+    letters.split_whitespace().collect::<Vec<&str>>().join(" ")
 }
 
 /// The words that a text is part of, or the nearest; all of them where none is near.
 pub fn suggestion<'a>(text: &str, words: impl Iterator<Item = &'a str> + Clone) -> String {
-    near(text, words.clone()).unwrap_or_else(|| choice(words))
-}
-
-/// The words that a text is part of or that are part of it, or the nearest.
-pub fn near<'a>(text: &str, words: impl Iterator<Item = &'a str> + Clone) -> Option<String> {
-    let close = close(text, words);
-    (!close.is_empty()).then(|| did_you_mean(&close))
+    match &close(text, words.clone())[..] {
+        [] => choice(words),
+        close => format!("did you mean {}?", close.join(" or ")),
+    }
 }
 
 fn choice<'a>(words: impl Iterator<Item = &'a str>) -> String {
@@ -244,15 +519,11 @@ fn listed<'a>(words: impl Iterator<Item = &'a str>) -> String {
     words.collect::<Vec<&str>>().join(", ")
 }
 
-fn did_you_mean(words: &[&str]) -> String {
-    format!("did you mean {}?", words.join(" or "))
-}
-
 /// Letters by which a misspelt word may differ at most.
 const MOST_LETTERS: usize = 3;
 
 /// The words that a text is part of or that are part of it; where there are none, the nearest, if it differs by few letters.
-fn close<'a>(text: &str, words: impl Iterator<Item = &'a str> + Clone) -> Vec<&'a str> {
+pub fn close<'a>(text: &str, words: impl Iterator<Item = &'a str> + Clone) -> Vec<&'a str> {
     let is_part = |word: &str| text.split(|c: char| !c.is_alphanumeric()).any(|part| part == word);
     let shares = |word: &&str| word.contains(text) || is_part(word);
     let whole: Vec<&str> = words.clone().filter(shares).collect();
@@ -284,4 +555,29 @@ fn distance(a: &str, b: &str) -> usize {
         }
     }
     table[a.len()][b.len()]
+}
+
+#[cfg(test)]
+mod tests {
+    use super::{plain, Name, ELSEWHERE, NAMES};
+
+    /// Each spelling leads to one name, and to none of those that are said elsewhere.
+    #[test]
+    fn no_two_names_have_a_spelling_in_common() {
+        let spellings = || NAMES.iter().flat_map(|row| row.others.iter().chain([&row.word]));
+        let mut all: Vec<&str> = spellings().copied().collect();
+        let count = all.len();
+        all.sort_unstable();
+        all.dedup();
+        assert_eq!(all.len(), count);
+        for row in &NAMES {
+            for other in row.others.iter().chain([&row.word]) {
+                assert_eq!(Name::find(other), Some(row.name), "{other}");
+                assert!(other.chars().count() == 1 || plain(other) == *other, "{other}");
+            }
+        }
+        for (names, _) in ELSEWHERE {
+            assert!(names.iter().all(|name| Name::find(name).is_none() && plain(name) == *name));
+        }
+    }
 }

@@ -1,5 +1,8 @@
 //! Numbers as a person writes them: decimals read exactly, units turned into those of a sheet.
 
+use crate::inches;
+use crate::message::{Mend, Number, Reading, Slip};
+
 /// `digits` over 10^`places`, with no zeros at the end of the fraction.
 #[derive(Clone, Copy)]
 pub struct Decimal {
@@ -11,9 +14,10 @@ pub struct Decimal {
 const MOST_DIGITS: usize = 18;
 
 impl Decimal {
-    pub fn read(text: &str) -> Result<Decimal, String> {
+    pub fn read(text: &str) -> Result<Decimal, Slip> {
+        let wrong = |slip: Number| Err(Slip::new(slip).at(text));
         if text.starts_with('-') {
-            return Err(format!("{text}: negative; a sheet holds numbers from 0 up"));
+            return wrong(Number::Negative);
         }
         if text.contains(',') {
             return Err(comma(text, false));
@@ -23,13 +27,13 @@ impl Decimal {
         let digits = format!("{whole}{fraction}");
         let written = text.chars().any(|c| c.is_ascii_digit());
         if !written || !digits.chars().all(|c| c.is_ascii_digit()) {
-            return Err(format!("{text}: not a number"));
+            return wrong(Number::NotANumber(None));
         }
         if digits.len() > MOST_DIGITS {
-            return Err(format!("{text}: more digits than a sheet holds"));
+            return wrong(Number::TooManyDigits);
         }
-        let digits = if digits.is_empty() { "0" } else { &digits };
-        let digits = digits.parse().map_err(|_| format!("{text}: not a number"))?;
+        // no digits are left of ".0"
+        let digits = digits.parse().unwrap_or(0);
         Ok(Decimal { digits, places: fraction.len() as u32 })
     }
 
@@ -37,11 +41,11 @@ impl Decimal {
         self.digits as f64 / 10_f64.powi(self.places as i32)
     }
 
-    /// Of a mass in so many kg, N rounded up.
-    fn weight(self, kilograms: u64) -> u64 {
-        let weighed = u128::from(self.digits) * u128::from(kilograms) * 981;
-        let newtons = weighed.div_ceil(10_u128.pow(self.places + 2));
-        newtons.try_into().unwrap_or(u64::MAX)
+    /// Of a mass in so many millionths of a kg, N rounded up, times so many hundredths.
+    fn weight(self, millionths: u64, hundredths: u64) -> u64 {
+        let weighed = u128::from(self.digits) * u128::from(millionths) * 981;
+        let raised = weighed.saturating_mul(hundredths.into());
+        raised.div_ceil(10_u128.pow(self.places + 10)).try_into().unwrap_or(u64::MAX)
     }
 
     /// The number times 10^`power`, where that is whole and at most `most`.
@@ -55,27 +59,24 @@ impl Decimal {
 }
 
 /// What a number with commas between its digits may mean: thousands, a decimal, or several numbers where a list is due.
-pub fn comma(text: &str, in_list: bool) -> String {
+pub fn comma(text: &str, in_list: bool) -> Slip {
     let groups: Vec<&str> = text.split(',').collect();
     let mut mends = Vec::new();
     if text.contains('.') {
-        mends.extend(last_as_point(text));
+        mends.extend(last_as_point(text).map(Mend::plain));
     } else if in_thousands(&groups) {
-        mends.push(groups.concat());
+        mends.push(Mend::plain(groups.concat()));
     }
     if let [before, after] = groups[..] {
         if after.len() <= 3 && after != "000" && !text.contains('.') {
-            mends.push(format!("{before}.{after} for a decimal"));
+            mends.push(Mend::new(format!("{before}.{after}"), Reading::Decimal));
         }
     }
     // zeros in front stand in no number of their own
     if in_list && groups.iter().all(|group| *group == "0" || !group.starts_with('0')) {
-        mends.push(format!("{} for {} numbers", groups.join(", "), groups.len()));
+        mends.push(Mend::new(groups.join(", "), Reading::Numbers(groups.len())));
     }
-    match mends.is_empty() {
-        true => format!("{text}: {} numbers where one is due", groups.len()),
-        false => format!("{text}: a comma between digits; write {}", mends.join(", or ")),
-    }
+    Slip::new(Number::Comma(groups.len())).at(text).with(mends)
 }
 
 /// Of commas and points the last is the decimal's.
@@ -96,10 +97,31 @@ enum Misfit {
     TooLarge,
 }
 
+#[derive(Clone, Copy, Debug, PartialEq, Eq)]
+pub enum Quantity {
+    Length,
+    /// The greater, the greater the patch load.
+    Eccentricity,
+    /// The greater, the lower every load.
+    Headroom,
+    StrakeHeight,
+    Weight,
+    Angle,
+    Ratio,
+    Friction,
+    Factor,
+}
+
+impl Quantity {
+    pub fn is_length(self) -> bool {
+        use Quantity::{Eccentricity, Headroom, Length, StrakeHeight};
+        matches!(self, Length | Eccentricity | Headroom | StrakeHeight)
+    }
+}
+
 /// How a quantity is written, and what a sheet holds of it.
 pub struct Measure {
-    /// With its article.
-    pub name: &'static str,
+    pub quantity: Quantity,
     /// Each unit, and the power of ten that turns it into the sheet's.
     pub units: &'static [(&'static str, u32)],
     /// The most that the sheet's number can be.
@@ -119,21 +141,28 @@ enum Instead {
     Angle,
 }
 
-/// Units of mass per volume, in kg/m3.
-const MASSES: [(&str, u64); 6] = [
-    ("kg/m3", 1),
-    ("kg/hl", 10),
-    ("t/m3", 1000),
-    ("g/cm3", 1000),
-    ("kg/dm3", 1000),
-    ("kg/l", 1000),
+/// Units of mass per volume, in millionths of a kg/m3, rounded up.
+const MASSES: [(&str, u64); 10] = [
+    ("kg/m3", 1_000_000),
+    ("kg/hl", 10_000_000),
+    ("t/m3", 1_000_000_000),
+    ("g/cm3", 1_000_000_000),
+    ("kg/dm3", 1_000_000_000),
+    ("kg/l", 1_000_000_000),
+    ("lb/ft3", 16_018_464),
+    ("lbs/ft3", 16_018_464),
+    ("pcf", 16_018_464),
+    ("lb/bu", 12_871_860),
 ];
+
+/// Hundredths by which a measured mean weight is raised at least (7.3.1).
+const RAISED: u64 = 115;
 
 const LENGTH_UNITS: &[(&str, u32)] = &[("mm", 0), ("cm", 1), ("m", 3)];
 
-/// Eccentricities and depths.
+/// Depths.
 pub const LENGTH: Measure = Measure {
-    name: "a length",
+    quantity: Quantity::Length,
     units: LENGTH_UNITS,
     most: u32::MAX as u64,
     limits: (0, 72_000),
@@ -145,13 +174,20 @@ pub const SIDE: Measure = Measure { limits: (500, 50_000), ..LENGTH };
 pub const HOPPER_HEIGHT: Measure = Measure { limits: (1, 25_000), ..LENGTH };
 pub const HOPPER_RUN: Measure = Measure { limits: (1, 24_999), ..LENGTH };
 pub const OUTLET: Measure = Measure { limits: (1, 49_998), ..LENGTH };
-pub const HEADROOM: Measure = Measure { limits: (0, 71_999), ..LENGTH };
+pub const ECCENTRICITY: Measure =
+    Measure { quantity: Quantity::Eccentricity, limits: (0, 12_500), ..LENGTH };
+pub const HEADROOM: Measure =
+    Measure { quantity: Quantity::Headroom, limits: (0, 71_999), ..LENGTH };
 /// From depth to depth.
 pub const STEP: Measure = Measure { limits: (1, 72_000), ..LENGTH };
-pub const STRAKE: Measure =
-    Measure { name: "a strake's height", most: u16::MAX as u64, limits: (200, 3_000), ..LENGTH };
+pub const STRAKE: Measure = Measure {
+    quantity: Quantity::StrakeHeight,
+    most: u16::MAX as u64,
+    limits: (200, 3_000),
+    ..LENGTH
+};
 pub const WEIGHT: Measure = Measure {
-    name: "a weight",
+    quantity: Quantity::Weight,
     units: &[("N/m3", 0), ("kN/m3", 3)],
     most: u32::MAX as u64,
     limits: (1_000, 30_000),
@@ -160,7 +196,7 @@ pub const WEIGHT: Measure = Measure {
 };
 /// Thousandths of a degree.
 pub const ANGLE: Measure = Measure {
-    name: "an angle",
+    quantity: Quantity::Angle,
     units: &[("deg", 3), ("degrees", 3), ("degree", 3), ("°", 3)],
     most: 360_000,
     limits: (20_000, 90_000),
@@ -169,7 +205,7 @@ pub const ANGLE: Measure = Measure {
 };
 /// Hundredths, written without a unit.
 pub const RATIO: Measure = Measure {
-    name: "a ratio",
+    quantity: Quantity::Ratio,
     units: &[("", 2)],
     most: u16::MAX as u64,
     limits: (20, 100),
@@ -177,8 +213,8 @@ pub const RATIO: Measure = Measure {
     instead: Instead::Nothing,
 };
 pub const FRICTION: Measure =
-    Measure { name: "a friction", limits: (10, 100), instead: Instead::Angle, ..RATIO };
-pub const FACTOR: Measure = Measure { name: "a factor", limits: (100, 200), ..RATIO };
+    Measure { quantity: Quantity::Friction, limits: (10, 100), instead: Instead::Angle, ..RATIO };
+pub const FACTOR: Measure = Measure { quantity: Quantity::Factor, limits: (100, 200), ..RATIO };
 
 /// Digits in groups of three: 23,456.
 pub fn in_threes(digits: &str, separator: char) -> String {
@@ -192,25 +228,24 @@ pub fn in_threes(digits: &str, separator: char) -> String {
     text
 }
 
-/// Units, as a sentence has them.
-fn choice<'a>(units: impl Iterator<Item = &'a (&'static str, u32)>) -> String {
-    let names: Vec<&str> = units.map(|(unit, _)| *unit).collect();
-    match names.split_last() {
-        Some((last, [])) => last.to_string(),
-        Some((last, others)) => format!("{} or {last}", others.join(", ")),
-        None => String::new(),
-    }
-}
-
 /// Of `1.000`, which some read as a thousand, that thousand.
-fn thousands(written: &str) -> Option<u64> {
-    let (whole, fraction) = written.split(' ').next()?.split_once('.')?;
+fn thousands(number: &str) -> Option<u64> {
+    let (whole, fraction) = number.split_once('.')?;
     let alike = in_thousands(&[whole, fraction]) && fraction == "000";
     whole.parse::<u64>().ok().filter(|_| alike).map(|whole| 1000 * whole)
 }
 
+/// A unit as the tables have it.
 fn plain_unit(unit: &str) -> String {
-    unit.replace('³', "3").replace('^', "")
+    let unit = unit.replace('³', "3").replace('^', "");
+    let unit = unit.trim_end_matches('.').to_string();
+    match unit.to_lowercase().trim_end_matches('s') {
+        "millimetre" | "millimeter" | "millimètre" => "mm".to_string(),
+        "centimetre" | "centimeter" | "centimètre" => "cm".to_string(),
+        "metre" | "meter" | "mètre" | "mtr" => "m".to_string(),
+        "degré" | "degre" => "deg".to_string(),
+        _ => unit,
+    }
 }
 
 pub fn millimetres(number: u64) -> String {
@@ -246,6 +281,46 @@ impl Measure {
         known.map(|(_, power)| *power)
     }
 
+    /// A length in feet and inches, where it is one: whole mm, or the mm beside it.
+    pub fn in_inches(&self, text: &str) -> Option<Result<u64, Slip>> {
+        let is_length = self.quantity.is_length();
+        let exact = Some(text).filter(|_| is_length).and_then(inches::millimetres)?;
+        let below = exact.down().try_into().unwrap_or(u64::MAX);
+        if exact.bottom == 1 && below <= self.most {
+            return Some(Ok(below));
+        }
+        let slip = match below < self.most {
+            true => Number::Inches(exact.about(2)),
+            false => Number::TooLarge((self.show)(self.most)),
+        };
+        Some(Err(Slip::new(slip).at(text).with(self.mends([below, below.saturating_add(1)]))))
+    }
+
+    /// The unit at the front, and what follows it; where the quantity has no unit, nothing and all of it.
+    pub fn unit_before<'a>(&self, text: &'a str) -> Option<(&'static str, &'a str)> {
+        let ends = |rest: &str| !rest.starts_with(|c: char| c.is_alphanumeric());
+        let mut units = self.units.iter().filter_map(|(unit, _)| {
+            let start = text.get(..unit.len())?;
+            let rest = &text[unit.len()..];
+            let ends = unit.is_empty() || ends(rest);
+            (start.eq_ignore_ascii_case(unit) && ends).then_some((*unit, rest))
+        });
+        units.next_back()
+    }
+
+    /// A number without a unit that is a weight in none of them, but a mass: with the unit that it has then.
+    fn as_mass(&self, decimal: Decimal, number: &str) -> Option<Slip> {
+        let units = ["kg/m3", "kg/hl", "t/m3"].into_iter();
+        let mut slips = units.filter_map(|unit| Some((unit, self.instead(decimal, unit)?)));
+        let (unit, slip) = slips.find(|(_, slip)| !slip.mends.is_empty())?;
+        Some(slip.at(format!("{number} {unit}")))
+    }
+
+    /// The sheet's unit.
+    pub fn unit(&self) -> &'static str {
+        self.units[0].0
+    }
+
     pub fn is_unit(&self, word: &str) -> bool {
         self.power_of(word).is_some()
     }
@@ -254,105 +329,117 @@ impl Measure {
         self.units.iter().any(|(unit, _)| !unit.is_empty())
     }
 
-    /// The units in which a decimal is inside the limits; all of them where it is in none.
-    fn units_inside(&self, decimal: Decimal) -> String {
+    /// A decimal with each unit in which it is inside the limits. Of spellings the first.
+    fn with_units(&self, decimal: Decimal, number: &str) -> Vec<Mend> {
+        let first =
+            |unit: &&(&str, u32)| self.units.iter().find(|other| other.1 == unit.1) == Some(unit);
         let fits = |power: u32| decimal.whole(power, self.most).is_ok_and(|n| self.is_inside(n));
-        let inside = |unit: &&(&'static str, u32)| fits(unit.1);
-        match self.units.iter().any(|unit| inside(&unit)) {
-            true => choice(self.units.iter().filter(inside)),
-            false => choice(self.units.iter()),
-        }
+        let units = self.units.iter().filter(first).filter(|unit| fits(unit.1));
+        units.map(|(unit, _)| Mend::plain(format!("{number} {unit}"))).collect()
     }
 
-    fn is_inside(&self, number: u64) -> bool {
+    pub fn is_inside(&self, number: u64) -> bool {
         (self.limits.0..=self.limits.1).contains(&number)
     }
 
-    /// Numbers that a person may write, of those inside the limits; nothing where none is.
-    fn mend(&self, numbers: impl IntoIterator<Item = u64>) -> Option<String> {
+    /// Numbers that a person may write, of those inside the limits.
+    pub fn mends(&self, numbers: impl IntoIterator<Item = u64>) -> Vec<Mend> {
         let numbers = numbers.into_iter().filter(|number| self.is_inside(*number));
-        let shown: Vec<String> = numbers.map(self.show).collect();
-        (!shown.is_empty()).then(|| format!("write {}", shown.join(" or ")))
+        numbers.map(|number| Mend::plain((self.show)(number))).collect()
     }
 
-    /// The tangent of an angle of friction in degrees, with the hundredths beside it.
-    pub fn tangent(&self, degrees: f64) -> Option<String> {
-        let tangent = degrees.to_radians().tan();
-        let below = (100.0 * tangent).floor().clamp(0.0, 1e6) as u64;
-        let mend = self.mend([below, below + 1])?;
-        Some(format!("its tangent is {tangent:.3}; {mend}"))
+    /// The numbers on both sides of one that is too fine, each with what it is careful for; of a weight, a factor or an eccentricity the upper,
+    /// of a headroom the lower.
+    fn beside(&self, below: u64) -> Vec<Mend> {
+        let above = below.saturating_add(1);
+        let careful = |lower: Reading, upper: Reading| {
+            let lower =
+                self.mends([below]).into_iter().map(move |mend| mend.read_as(lower.clone()));
+            let upper =
+                self.mends([above]).into_iter().map(move |mend| mend.read_as(upper.clone()));
+            lower.chain(upper).collect()
+        };
+        match self.quantity {
+            Quantity::Weight | Quantity::Factor | Quantity::Eccentricity => self.mends([above]),
+            Quantity::Headroom => self.mends([below]),
+            Quantity::Friction => careful(Reading::ForPush, Reading::ForDrag),
+            Quantity::Ratio => careful(Reading::ForFloor, Reading::ForWall),
+            _ => self.mends([below, above]),
+        }
+    }
+
+    /// The hundredths on both sides of the tangent of an angle of friction in degrees.
+    pub fn tangents(&self, degrees: f64) -> Vec<Mend> {
+        self.beside((100.0 * degrees.to_radians().tan()).floor().clamp(0.0, 1e6) as u64)
+    }
+
+    /// A weight, N/m³, that is said to be a mean or measured: raised as 7.3.1 has it.
+    pub fn raised(&self, weight: u64) -> Slip {
+        let raised = u128::from(weight) * u128::from(RAISED);
+        let raised = raised.div_ceil(100).try_into().unwrap_or(u64::MAX);
+        Slip::new(Number::MeanWeight).with(self.mends([raised]))
     }
 
     /// Another quantity in place of the one that is due, and what it would be here.
-    pub fn instead(&self, decimal: Decimal, number: &str, unit: &str) -> Option<String> {
+    pub fn instead(&self, decimal: Decimal, unit: &str) -> Option<Slip> {
         let written = plain_unit(unit).to_lowercase();
-        let what = match self.instead {
-            Instead::Nothing => return None,
+        match self.instead {
+            Instead::Nothing => None,
             Instead::Mass => {
-                let (_, kilograms) = MASSES.iter().find(|(unit, _)| *unit == written)?;
-                let newtons = decimal.weight(*kilograms);
-                format!("a mass; its weight is 9.81 m/s2 times as much, {newtons} N/m3")
+                let (_, mass) = MASSES.iter().find(|(unit, _)| *unit == written)?;
+                let mends = self.mends([decimal.weight(*mass, RAISED)]);
+                Some(Slip::new(Number::Mass(decimal.weight(*mass, 100))).with(mends))
             }
             Instead::Angle => {
                 ANGLE.units.iter().find(|(unit, _)| *unit == written)?;
-                match self.tangent(decimal.value()) {
-                    Some(said) => format!("an angle; {said}"),
-                    None => "an angle; a friction is its tangent".to_string(),
-                }
+                let degrees = decimal.value();
+                let mends = self.tangents(degrees);
+                let tangent = format!("{:.3}", degrees.to_radians().tan());
+                Some(Slip::new(Number::Angle((!mends.is_empty()).then_some(tangent))).with(mends))
             }
-        };
-        Some(format!("{number} {unit}: {what}"))
+        }
     }
 
     /// The power of ten for a written unit; a number other than 0 needs one where there are any.
-    pub fn power(&self, decimal: Decimal, number: &str, unit: Option<&str>) -> Result<u32, String> {
+    pub fn power(&self, decimal: Decimal, number: &str, unit: Option<&str>) -> Result<u32, Slip> {
         let Some(written) = unit else {
-            let units = self.units_inside(decimal);
-            return match self.has_unit() && decimal.digits > 0 {
-                true => Err(format!("{number}: no unit; write {number} followed by {units}")),
-                false => Ok(self.units[0].1),
-            };
+            if !self.has_unit() || decimal.digits == 0 {
+                return Ok(self.units[0].1);
+            }
+            let mends = self.with_units(decimal, number);
+            let mass = self.as_mass(decimal, number).filter(|_| mends.is_empty());
+            let all = self.units.iter().map(|(unit, _)| *unit).collect();
+            return Err(mass.unwrap_or_else(|| Slip::new(Number::NoUnit(all)).with(mends)));
         };
         if !self.has_unit() {
             let hundredth = Decimal { places: decimal.places + 2, ..decimal };
             let percent = hundredth.whole(self.units[0].1, self.most).ok();
-            let mend = percent.filter(|_| written == "%").and_then(|number| self.mend([number]));
-            let mend = mend.map(|mend| format!("; {mend}")).unwrap_or_default();
-            return Err(format!("{number} {written}: {} has no unit{mend}", self.name));
+            let mends = self.mends(percent.filter(|_| written == "%"));
+            return Err(Slip::new(Number::HasNoUnit(self.quantity)).with(mends));
         }
         self.power_of(&plain_unit(written)).ok_or_else(|| {
-            format!(
-                "{number} {written}: unknown unit {written}; {} is in {}",
-                self.name,
-                choice(self.units.iter())
-            )
+            let units = self.units.iter().map(|(unit, _)| *unit).collect();
+            let (unit, quantity) = (written.to_string(), self.quantity);
+            Slip::new(Number::UnknownUnit { unit, quantity, units })
         })
     }
 
     /// The sheet's number for a decimal.
-    pub fn whole(&self, decimal: Decimal, power: u32, written: &str) -> Result<u64, String> {
-        let show = self.show;
-        if let Some(thousands) = thousands(written).filter(|_| power == 0) {
-            let mend = self.mend([thousands / 1000, thousands]);
-            let mend = mend.map(|mend| format!("; {mend}")).unwrap_or_default();
-            return Err(format!("{written}: some read it in thousands{mend}"));
+    pub fn whole(&self, decimal: Decimal, power: u32, number: &str) -> Result<u64, Slip> {
+        if let Some(thousands) = thousands(number).filter(|_| power == 0) {
+            let mends = self.mends([thousands / 1000, thousands]);
+            return Err(Slip::new(Number::InThousands).with(mends));
         }
         decimal.whole(power, self.most).map_err(|misfit| match misfit {
             Misfit::Finer(below) => {
-                let number = written.split(' ').next().unwrap_or("");
-                let meant = self.unit_for(decimal).map(|unit| format!("{number} {unit}"));
-                let beside = self.mend([below, below.saturating_add(1)]);
-                let mend = match (beside, meant) {
-                    (Some(beside), Some(meant)) => format!("; {beside}, or {meant}"),
-                    (Some(beside), None) => format!("; {beside}"),
-                    (None, Some(meant)) => format!("; write {meant}"),
-                    (None, None) => String::new(),
-                };
-                format!("{written}: finer than a sheet can say{mend}")
+                let is_lighter = self.quantity == Quantity::Headroom;
+                let meant = self.unit_for(decimal).filter(|_| !is_lighter);
+                let meant = meant.map(|unit| format!("{number} {unit}"));
+                let mut mends = self.beside(below);
+                mends.extend(meant.map(Mend::plain));
+                Slip::new(Number::Finer).with(mends)
             }
-            Misfit::TooLarge => {
-                format!("{written}: over {}, the most that a sheet can say", show(self.most))
-            }
+            Misfit::TooLarge => Slip::new(Number::TooLarge((self.show)(self.most))),
         })
     }
 

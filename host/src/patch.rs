@@ -1,4 +1,5 @@
-//! The patch round a thin circular shell at one depth (5.11, 5.12): what every output says of it.
+//! The patch of a circle at one depth: round a thin shell (5.11, 5.12), or on two opposite squares of a wall that is concrete or stiffened
+//! (5.2.1.1, 4). What every output says of it.
 
 use crate::library::ShellPatch;
 use crate::number::tenths;
@@ -11,19 +12,36 @@ pub struct Patch<'a> {
     pub shell: ShellPatch,
 }
 
-/// How the lines that describe a patch start, in a table.
-pub const HEADING: &str = "Patch round the shell, ";
+/// How the lines that describe a patch start, in a table: round a shell, and on squares.
+pub const HEADINGS: [&str; 2] = ["Patch round the shell, ", "Patch on two opposite squares, "];
 /// Which pressure stands at a degree.
 pub const LAW: &str = "p_ps = p_p cos theta (5.11), outward positive, inward negative";
 
-const WALLS: &str =
-    "The patch goes round thin-walled circles, d_c/t over 200 and no ring stiffeners (1.4.15.3). On concrete and stiffened walls it acts on two \
-     opposite squares with sides of s (5.2.1.1, 4).";
-const PLACES: &str =
-    "The patch is added to p_he. It may act at any depth and towards any side: 0 degrees is the side where it presses outward most (5.2.1.1, 3 \
-     and 6).";
+/// Notes on the patch round a shell.
+const ROUND: [&str; 2] = [
+    "The patch goes round thin-walled circles, d_c/t over 200 and no ring stiffeners (1.4.15.3). With wall = concrete or stiffeners = yes in \
+     the text it acts on two opposite squares with sides of s (5.2.1.1, 4).",
+    "The patch is added to p_he. It may act at any depth and towards any side: 0 degrees is the side where it presses outward most (5.2.1.1, \
+     3 and 6).",
+];
+/// Notes on the patch on squares, the first behind what the wall is.
+const ON_SQUARES: [&str; 2] = [
+    "so the patch presses outward on two opposite squares with sides of s (5.2.1.1, 4). The cosine round the shell (5.11) and the force F_p \
+     (5.12) are for thin-walled circles of metal without stiffeners.",
+    "The patch is added to p_he. The squares may lie at any depth and on any two opposite sides (5.2.1.1, 3).",
+];
 
 impl Patch<'_> {
+    /// It goes round the shell; else it acts on two opposite squares.
+    pub fn is_round(&self) -> bool {
+        self.report.is_thin()
+    }
+
+    /// p_p, Pa
+    pub fn pressure(&self) -> u32 {
+        self.shell.pressure()
+    }
+
     /// Degrees from 0 on, so far apart, each with its pressure, Pa.
     pub fn every(&self, step: usize) -> impl Iterator<Item = (usize, i32)> + '_ {
         self.shell.pressures().iter().copied().enumerate().step_by(step)
@@ -52,47 +70,49 @@ impl Patch<'_> {
     }
 
     /// Where it acts, its greatest pressure, its height and its force, a line each; `written` is how a number looks.
-    pub fn facts(&self, written: impl Fn(&str) -> String) -> [String; 4] {
+    pub fn facts(&self, written: impl Fn(&str) -> String) -> Vec<String> {
         let units = self.report.units;
         let length = |number: u32| format!("{} mm", written(&number.to_string()));
-        let in_tenths = |number: u64| written(&tenths(number));
         let surface = match self.below_surface() {
             None => String::new(),
             Some(0) => format!("; the grain begins at {}", length(self.report.silo.headroom)),
             Some(depth) => format!(", {} below the grain's surface", length(depth)),
         };
+        let [heading, at, side] = match self.is_round() {
+            true => [HEADINGS[0], "at 0 degrees", "its height"],
+            false => [HEADINGS[1], "outward on each", "their sides"],
+        };
         let (from, to) = self.band();
-        [
-            format!("{HEADING}{} below the brim{surface}", length(self.depth)),
-            format!(
-                "p_p {} {} at 0 degrees, on discharge (5.24)",
-                written(&units.show(self.shell.pressure())),
-                units.pressure()
-            ),
-            format!(
-                "s {} mm, its height, from {} to {} mm (5.10)",
-                in_tenths(self.height()),
-                in_tenths(from),
-                in_tenths(to)
-            ),
-            format!(
-                "F_p {} {}, its force, towards 0 degrees (5.12)",
-                written(&units.show(self.shell.force())),
-                units.force()
-            ),
-        ]
+        let [s, from, to] = [self.height(), from, to].map(|number| written(&tenths(number)));
+        let p_p = format!("{} {}", written(&units.show(self.pressure())), units.pressure());
+        let force = self.is_round().then(|| {
+            let force = written(&units.show(self.shell.force()));
+            format!("F_p {force} {}, its force, towards 0 degrees (5.12)", units.force())
+        });
+        let facts = [
+            format!("{heading}{} below the brim{surface}", length(self.depth)),
+            format!("p_p {p_p} {at}, on discharge (5.24)"),
+            format!("s {s} mm, {side}, from {from} to {to} mm (5.10)"),
+        ];
+        facts.into_iter().chain(force).collect()
     }
 
     /// What the patch leaves out, as far as it applies to this silo and depth.
     pub fn notes(&self) -> Vec<String> {
         let mut notes = self.report.notes_of_silo();
-        notes.extend([WALLS, PLACES].map(str::to_string));
+        notes.extend(match self.is_round() {
+            true => ROUND.map(str::to_string),
+            false => {
+                let [squares, places] = ON_SQUARES;
+                [format!("The wall {}, {squares}", self.report.stiffness()), places.to_string()]
+            }
+        });
         notes.extend(self.cut_off());
         notes.extend(self.report.unreduced());
         notes
     }
 
-    /// A band that would go beyond the wall.
+    /// A band or squares that would go beyond the wall.
     fn cut_off(&self) -> Option<String> {
         let (from, to) = self.whole_band();
         let ends = [
@@ -101,6 +121,9 @@ impl Patch<'_> {
         ];
         let cut: Vec<&str> = ends.iter().filter(|(cut, _)| *cut).map(|(_, end)| *end).collect();
         let ends = cut.join(" and ");
-        (!cut.is_empty()).then(|| format!("The band ends {ends}; F_p is for its whole height s."))
+        (!cut.is_empty()).then(|| match self.is_round() {
+            true => format!("The band ends {ends}; F_p is for its whole height s."),
+            false => format!("The squares end {ends}."),
+        })
     }
 }

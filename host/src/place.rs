@@ -1,13 +1,15 @@
-//! Where in a sheet a refusal comes from, in words. The library has refused by then; nothing here decides.
+//! Where in a sheet a refusal comes from. The library has refused by then; nothing here decides.
 
 use crate::description::{Description, Section};
 use crate::library::Refusal;
+use crate::message::{words, Limit, Mend, Reading, Size, Slip, What};
 use crate::name::Name;
 use crate::number::{
     hundredths, millimetres, newtons, tenths, Measure, FACTOR, FRICTION, RATIO, SIDE, STRAKE,
     WEIGHT,
 };
-use std::ops::RangeInclusive;
+use crate::text::runs;
+use std::ops::{Range, RangeInclusive};
 
 /// A number of a sheet, or a whole list.
 #[derive(Clone, Copy, Debug, PartialEq, Eq)]
@@ -23,7 +25,17 @@ pub enum Field {
 /// A field and what is wrong with it, with its limit and the likely mend.
 pub struct Place {
     pub field: Field,
-    pub why: String,
+    pub slip: Slip,
+}
+
+impl Place {
+    fn new(field: Field, limit: Limit) -> Place {
+        Place { field, slip: Slip::new(limit) }
+    }
+
+    fn of_line(name: Name, limit: Limit) -> Place {
+        Place::new(Field::Line(name), limit)
+    }
 }
 
 /// Most places that are listed for one refusal.
@@ -98,15 +110,14 @@ pub fn others(first: Refusal, silo: &Description) -> Vec<(Refusal, Place)> {
 pub fn later(silo: &Description) -> Option<String> {
     let Sizes { width, wall, headroom, hopper } = Sizes::sound(silo);
     let sizes = [
-        (width, "the diameter or sides"),
-        (wall, "the strakes"),
-        (headroom, "the headroom"),
-        (hopper, "the hopper"),
+        (width, Name::Diameter),
+        (wall, Name::Strakes),
+        (headroom, Name::Headroom),
+        (hopper, Name::HopperHeight),
     ];
     let at_fault = sizes.iter().filter(|(size, _)| size.is_none()).map(|(_, name)| *name);
-    let at_fault = at_fault.collect::<Vec<&str>>().join(" and ");
-    (!at_fault.is_empty())
-        .then(|| format!("limits measured by {at_fault} are judged after the mend"))
+    let at_fault: Vec<Name> = at_fault.collect();
+    (!at_fault.is_empty()).then(|| words::later(&at_fault))
 }
 
 fn judged(refusal: Refusal, silo: &Description, sizes: &Sizes) -> Vec<Place> {
@@ -125,8 +136,8 @@ fn judged(refusal: Refusal, silo: &Description, sizes: &Sizes) -> Vec<Place> {
     };
     let more = found.len().saturating_sub(MOST);
     found.truncate(MOST);
-    if let Some(last) = found.last_mut().filter(|_| more > 0) {
-        last.why += &format!(" ({more} more like this)");
+    if let Some(last) = found.last_mut() {
+        last.slip.more = more;
     }
     found
 }
@@ -140,85 +151,82 @@ fn counts(silo: &Description) -> Vec<Place> {
     let mut found = Vec::new();
     let (strakes, depths) = (silo.strakes.len(), silo.depths.len());
     if !(1..=MOST_STRAKES as usize).contains(&strakes) {
-        let mend = match silo.wall_height() > HIGHEST_WALL {
-            true => "so it is at most 72000 mm high",
-            false => "take higher strakes",
-        };
-        let why = format!("{strakes} strakes; a wall has 1 to 24; {mend}");
-        found.push(Place { field: Field::Line(Name::Strakes), why });
+        let too_high = silo.wall_height() > HIGHEST_WALL;
+        let limit = Limit::Strakes { count: strakes, too_high };
+        found.push(Place::of_line(Name::Strakes, limit));
     }
     // steps and edges follow the strakes
     if found.is_empty() && !(1..=200).contains(&depths) {
-        let mut why =
-            format!("{depths} depths; a sheet has 1 to 200; list fewer or take a larger step");
-        let step = silo.wall_height().div_ceil(199);
-        if step > 1 {
-            why += &format!(" (every {step} mm or more)");
-        }
-        found.push(Place { field: Field::Line(Name::Depths), why });
+        let step = Some(silo.wall_height().div_ceil(199)).filter(|step| *step > 1);
+        found.push(Place::of_line(Name::Depths, Limit::Depths { count: depths, step }));
     }
     found
 }
 
 /// A number with its limits, and other readings of it that a person may have meant.
-struct Limit {
+struct Number {
     field: Field,
-    name: &'static str,
+    size: Size,
     number: u64,
     measure: &'static Measure,
     /// A factor by which a slip of unit makes a number too small or too large.
     slip: u64,
 }
 
-impl Limit {
+impl Number {
     fn place(&self) -> Option<Place> {
         let (number, show) = (self.number, self.measure.show);
         let (from, to) = self.measure.limits;
         if (from..=to).contains(&number) {
             return None;
         }
-        let found = match number {
-            0 => format!("{} is missing or 0; it must be", self.name),
-            _ => format!("{} must be", self.name),
-        };
-        let why = format!("{found} {} to {}{}", show(from), show(to), self.hint());
-        Some(Place { field: self.field, why })
+        let limits = (show(from), show(to));
+        let limit = Limit::Outside { size: self.size, is_0: number == 0, limits, strakes: None };
+        let slip = Slip::new(limit).with(self.meant());
+        Some(Place { field: self.field, slip })
     }
 
-    /// What the number is in another unit, where that is inside the limits.
-    fn hint(&self) -> String {
-        let (number, show) = (self.number, self.measure.show);
-        let (from, to) = self.measure.limits;
-        let good = |n: &u64| (from..=to).contains(n);
+    /// What the number is in another unit, where that is inside the limits, and the tangent of an angle.
+    fn meant(&self) -> Vec<Mend> {
+        let number = self.number;
         let whole = Some(number / self.slip).filter(|_| number.is_multiple_of(self.slip));
-        let meant = [number.checked_mul(self.slip), whole];
-        let meant = meant.into_iter().flatten().find(good).map(show);
-        let angle = self.field == Field::Line(Name::Friction) && (500..=4500).contains(&number);
-        let tangent = self.measure.tangent(number as f64 / 100.0).filter(|_| angle);
-        match (meant, tangent) {
-            (Some(meant), Some(tangent)) => {
-                format!("; {meant} if it is in hundredths; if it is an angle, {tangent}")
-            }
-            (Some(meant), None) => format!("; did you mean {meant}?"),
-            (None, _) => String::new(),
+        let meant = [number.checked_mul(self.slip), whole].into_iter().flatten();
+        let meant = self.measure.mends(meant).into_iter().take(1);
+        let is_angle = self.size == Size::Friction && (500..=4500).contains(&number);
+        if !is_angle {
+            return meant.collect();
         }
+        let tangents = self.measure.tangents(number as f64 / 100.0);
+        meant.map(|mend| mend.read_as(Reading::Hundredths)).chain(tangents).collect()
     }
 }
 
-fn length(field: Field, name: &'static str, number: u64, measure: &'static Measure) -> Limit {
-    Limit { field, name, number, measure, slip: 1000 }
+fn length(field: Field, size: Size, number: u64, measure: &'static Measure) -> Number {
+    Number { field, size, number, measure, slip: 1000 }
 }
 
 /// A diameter or sides outside their limits.
 pub fn sides(section: Section) -> Vec<Place> {
-    let side = |field, name, number: u32| length(field, name, number.into(), &SIDE).place();
+    let side = |field, size, number: u32| length(field, size, number.into(), &SIDE).place();
+    let whole = |place: Place, before: String, after: String| {
+        let slip = place.slip.between(&before, &after);
+        Place { slip, ..place }
+    };
     match section {
         Section::Circle(d) => {
-            side(Field::Line(Name::Diameter), "the diameter", d).into_iter().collect()
+            side(Field::Line(Name::Diameter), Size::Diameter, d).into_iter().collect()
         }
         Section::Rectangle(a, b) => {
-            let sides = [side(Field::SideA, "side a", a), side(Field::SideB, "side b", b)];
-            sides.into_iter().flatten().collect()
+            let first = side(Field::SideA, Size::SideA, a);
+            let second = side(Field::SideB, Size::SideB, b);
+            let first = first.map(|place| whole(place, String::new(), format!(" x {b} mm")));
+            let second = second.map(|place| whole(place, format!("{a} mm x "), String::new()));
+            let mut sides: Vec<Place> = first.into_iter().chain(second).collect();
+            // 2 x 4000 mm may be two of these
+            if a == 2 {
+                sides.iter_mut().for_each(|place| place.slip.mends.clear());
+            }
+            sides
         }
     }
 }
@@ -230,39 +238,30 @@ fn unequal(section: Section) -> Option<Place> {
     if !sides(section).is_empty() || longer <= 3 * shorter {
         return None;
     }
-    let (most, least) = (3 * shorter, longer.div_ceil(3));
-    let bins = longer.div_ceil(most);
-    let each = longer / bins;
-    let found = format!("the longer, {longer} mm, is over three times the shorter, {shorter} mm");
-    let mend = format!("shorten it to at most {most} mm, widen the shorter to at least {least} mm");
-    let divided = format!("{bins} equal bins of at most {each} mm by {shorter} mm");
-    let why = format!(
-        "{found}; {mend}, or divide it by cross walls into {divided}, each with a sheet of its own"
-    );
-    Some(Place { field: Field::Line(Name::Sides), why })
+    Some(Place::of_line(Name::Sides, Limit::Unequal { longer, shorter }))
 }
 
 fn product(silo: &Description) -> Vec<Place> {
     let product = &silo.product;
-    let ratio = |line, name, number: u16, measure| Limit {
+    let ratio = |line, size, number: u16, measure| Number {
         field: Field::Line(line),
-        name,
+        size,
         number: number.into(),
         measure,
         slip: 100,
     };
-    let weight = Limit {
+    let weight = Number {
         field: Field::Line(Name::Weight),
-        name: "the weight",
+        size: Size::Weight,
         number: product.weight.into(),
         measure: &WEIGHT,
         slip: 1000,
     };
-    let factor = ratio(Name::Factor, "the factor C0", product.factor, &FACTOR);
+    let factor = ratio(Name::Factor, Size::Factor, product.factor, &FACTOR);
     let limits = [
         Some(weight),
-        Some(ratio(Name::Ratio, "the ratio Ks", product.ratio, &RATIO)),
-        Some(ratio(Name::Friction, "wall friction", product.friction, &FRICTION)),
+        Some(ratio(Name::Ratio, Size::Ratio, product.ratio, &RATIO)),
+        Some(ratio(Name::Friction, Size::Friction, product.friction, &FRICTION)),
         (product.factor > 0).then_some(factor),
     ];
     limits.into_iter().flatten().filter_map(|limit| limit.place()).collect()
@@ -271,12 +270,11 @@ fn product(silo: &Description) -> Vec<Place> {
 fn eccentricities(silo: &Description, sizes: &Sizes) -> Vec<Place> {
     let Some(most) = sizes.width.map(|width| width / 4) else { return Vec::new() };
     let of = [
-        (Field::Line(Name::FillingEccentricity), silo.filling_eccentricity),
-        (Field::Line(Name::OutletEccentricity), silo.outlet_eccentricity),
+        (Name::FillingEccentricity, silo.filling_eccentricity),
+        (Name::OutletEccentricity, silo.outlet_eccentricity),
     ];
     let over = of.into_iter().filter(|(_, e)| u64::from(*e) > most);
-    let why = format!("it must be at most a quarter of the diameter or shorter side, {most} mm");
-    over.map(|(field, _)| Place { field, why: why.clone() }).collect()
+    over.map(|(name, _)| Place::of_line(name, Limit::Eccentricity(most))).collect()
 }
 
 fn bottom(silo: &Description, sizes: &Sizes) -> Vec<Place> {
@@ -284,22 +282,19 @@ fn bottom(silo: &Description, sizes: &Sizes) -> Vec<Place> {
     let least = (363_971 * run).div_ceil(1_000_000);
     let too_wide = sizes.width.filter(|width| run > 0 && 2 * run >= *width);
     let mut found = Vec::new();
-    let mut add = |name, why| found.push(Place { field: Field::Line(name), why });
+    let mut add = |name, limit| found.push(Place::of_line(name, limit));
     if run == 0 && height > 0 {
-        let why = "the run is 0; it must be at least 1 mm, or write floor = flat without a hopper";
-        add(Name::HopperRun, why.to_string());
+        add(Name::HopperRun, Limit::NoRun);
     }
     if let Some(width) = too_wide {
-        let limit = format!("twice the run must be under the diameter or shorter side, {width} mm");
-        add(Name::HopperRun, format!("{limit}, so that an outlet is left"));
+        add(Name::HopperRun, Limit::RunTooWide(width));
     }
     if height > 25_000 {
-        add(Name::HopperHeight, "it must be at most 25000 mm".to_string());
+        add(Name::HopperHeight, Limit::HopperTooHigh);
     }
     // a slope is measured by a run that can stay
     if height < least && too_wide.is_none() {
-        let slope = format!("over a run of {run} mm the slope is under 20 degrees");
-        add(Name::HopperHeight, format!("{slope}; the height must be at least {least} mm"));
+        add(Name::HopperHeight, Limit::TooFlat { run, least });
     }
     found
 }
@@ -309,61 +304,66 @@ fn strakes(silo: &Description) -> Vec<Place> {
     let mut found = Vec::new();
     let mut first = 0;
     for run in silo.strakes.chunk_by(|a, b| a == b) {
-        let limit = length(Field::Strake(first), "the height", run[0].into(), &STRAKE);
+        let number = length(Field::Strake(first), Size::Height, run[0].into(), &STRAKE);
         let last = first + run.len();
-        found.extend(limit.place().map(|mut place| {
-            if run.len() > 1 {
-                place.why += &format!(" (strakes {} to {last})", first + 1);
-            }
-            if let [height] = silo.strakes[..] {
-                place.why += &in_strakes(height.into()).unwrap_or_default();
-            }
-            place
-        }));
+        found.extend(number.place().map(|place| of_run(place, silo, first..last)));
         first = last;
     }
     found
 }
 
+/// A place of some strakes, with mends of the whole list.
+fn of_run(mut place: Place, silo: &Description, run: Range<usize>) -> Place {
+    let numbers = Some((run.start + 1, run.end)).filter(|_| run.len() > 1);
+    if let What::Limit(Limit::Outside { strakes, .. }) = &mut *place.slip.what {
+        *strakes = numbers;
+    }
+    for mend in &mut place.slip.mends {
+        let height = mend.value.trim_end_matches(" mm").parse().unwrap_or(silo.strakes[run.start]);
+        let mut heights = silo.strakes.clone();
+        heights[run.clone()].fill(height);
+        *mend = mend.clone().in_whole(runs(&heights) + " mm");
+    }
+    if let [height] = silo.strakes[..] {
+        place.slip.mends.extend(in_strakes(height.into()));
+    }
+    place
+}
+
 /// A wall in one piece as equal strakes, the fewest that come out even.
-fn in_strakes(wall: u64) -> Option<String> {
+fn in_strakes(wall: u64) -> Option<Mend> {
     let fewest = wall.div_ceil(HIGHEST_STRAKE).max(2);
     let count = (fewest..=MOST_STRAKES).find(|count| wall.is_multiple_of(*count))?;
     let each = wall / count;
     let is_strake = (STRAKE.limits.0..=HIGHEST_STRAKE).contains(&each);
-    is_strake.then(|| format!("; a wall in one piece is written as {count} x {each} mm"))
+    is_strake.then(|| Mend::new(format!("{count} x {each} mm"), Reading::OnePiece))
 }
 
 fn depths(silo: &Description, sizes: &Sizes) -> Vec<Place> {
     let mut found = Vec::new();
     for (i, depth) in silo.depths.iter().enumerate() {
-        if let Some(why) = below_foot(*depth, sizes) {
-            found.push(Place { field: Field::Depth(i), why });
-        } else if i > 0 && *depth <= silo.depths[i - 1] {
-            let why = format!("it follows {} mm; depths must rise", silo.depths[i - 1]);
-            found.push(Place { field: Field::Depth(i), why });
-        }
+        let before = i.checked_sub(1).map(|i| silo.depths[i]).filter(|before| depth <= before);
+        let limit = below_foot(*depth, sizes).or(before.map(Limit::NotRising));
+        found.extend(limit.map(|limit| Place::new(Field::Depth(i), limit)));
     }
     found
 }
 
-fn below_foot(depth: u32, sizes: &Sizes) -> Option<String> {
-    let foot = sizes.wall.filter(|foot| u64::from(depth) > *foot)?;
-    Some(format!("below the wall's foot; it must be at most the sum of the strakes, {foot} mm"))
+fn below_foot(depth: u32, sizes: &Sizes) -> Option<Limit> {
+    sizes.wall.filter(|foot| u64::from(depth) > *foot).map(Limit::BelowFoot)
 }
 
 /// What is wrong with a depth that is given beside the sheet.
-pub fn given_depth(depth: u32, silo: &Description) -> Option<String> {
+pub fn given_depth(depth: u32, silo: &Description) -> Option<Limit> {
     below_foot(depth, &Sizes::sound(silo))
 }
 
 /// A rectangle, where a circle is due; its loads are named where it has any, which one that is too long has not.
 pub fn rectangle(silo: &Description) -> Option<Place> {
     let Section::Rectangle(..) = silo.section else { return None };
-    let squares = format!("two opposite squares of s = {} mm", tenths(silo.section.patch_side()));
-    let loads = format!("; silo loads has a rectangle's p_p, which acts on {squares} (5.10)");
-    let loads = if unequal(silo.section).is_some() { String::new() } else { loads };
-    Some(Place { field: Field::Line(Name::Sides), why: format!("a circle is due{loads}") })
+    let has_loads = unequal(silo.section).is_none();
+    let side = has_loads.then(|| tenths(silo.section.patch_side()));
+    Some(Place::of_line(Name::Sides, Limit::Rectangle(side)))
 }
 
 /// A headroom that leaves no grain at the wall: g >= V.
@@ -372,27 +372,15 @@ fn headroom(silo: &Description, sizes: &Sizes) -> Option<Place> {
     if headroom < wall {
         return None;
     }
-    let limit = format!("it must be under the sum of the strakes, {wall} mm");
-    let mend = headrooms(sizes).map(|good| less_headroom(headroom, good)).unwrap_or_default();
-    let why = format!("no grain is left at the wall; {limit}{mend}");
-    Some(Place { field: Field::Line(Name::Headroom), why })
-}
-
-/// In place of a headroom that is too great: those that are not, and metres taken for millimetres, or a higher wall where one can be.
-fn less_headroom(headroom: u64, good: RangeInclusive<u64>) -> String {
-    let range = match (good.start(), good.end()) {
-        (0, most) => format!("at most {most} mm"),
-        (least, most) => format!("{least} mm to {most} mm"),
-    };
-    let meant = headroom / 1000;
-    let more = match headroom < HIGHEST_WALL {
-        true => format!(", or strakes of more than {headroom} mm together"),
-        false if headroom.is_multiple_of(1000) && good.contains(&meant) => {
-            format!("; did you mean {meant} mm?")
-        }
-        false => String::new(),
-    };
-    format!(": {range}{more}")
+    let good = headrooms(sizes);
+    let higher = Some(headroom).filter(|headroom| *headroom < HIGHEST_WALL);
+    // metres taken for millimetres
+    let meant = Some(headroom / 1000).filter(|_| higher.is_none() && headroom.is_multiple_of(1000));
+    let meant = meant.filter(|meant| good.as_ref().is_some_and(|good| good.contains(meant)));
+    let good = good.map(|good| (*good.start(), *good.end()));
+    let slip = Slip::new(Limit::Headroom { wall, good, higher });
+    let slip = slip.with(meant.map(|meant| Mend::plain(millimetres(meant))));
+    Some(Place { field: Field::Line(Name::Headroom), slip })
 }
 
 /// The headrooms that break neither 17 nor 12, as far as the sizes are known; mm.
@@ -409,20 +397,12 @@ fn headrooms(sizes: &Sizes) -> Option<RangeInclusive<u64>> {
 fn shape(sizes: &Sizes) -> Option<Place> {
     let (width, wall, headroom, hopper) =
         (sizes.width?, sizes.wall?, sizes.headroom?, sizes.hopper?);
-    let (height, limit) = (wall.saturating_sub(headroom) + hopper, 10 * width);
-    if height < limit {
+    if wall.saturating_sub(headroom) + hopper < 10 * width {
         return None;
     }
-    let (less, more) = match headroom {
-        0 => (String::new(), None),
-        _ => (format!(" less headroom {headroom} mm"), headrooms(sizes)),
-    };
-    let made = format!("wall {wall} mm{less} and hopper {hopper} mm make h = {height} mm");
-    let limit = format!("it must be under 10 times {width} mm, {limit} mm");
-    let lower = if hopper > 0 { "take off strakes or hopper" } else { "take off strakes" };
-    let more = more.map(|good| format!(", leave a headroom of at least {} mm", good.start()));
-    let why = format!("{made}; {limit}; {lower}{} or take a wider silo", more.unwrap_or_default());
-    Some(Place { field: Field::Line(Name::Strakes), why })
+    let least = headrooms(sizes).filter(|_| headroom > 0).map(|good| *good.start());
+    let limit = Limit::TooSlender { width, wall, headroom, hopper, least };
+    Some(Place::of_line(Name::Strakes, limit))
 }
 
 impl Field {

@@ -1,10 +1,11 @@
 //! What every output says beside its loads: the silo, the order's own lines, where the product's numbers come from, and what the loads
 //! leave out.
 
-use crate::catalogue::Origin;
+use crate::catalogue::{Origin, Wall};
 use crate::description::{Description, Section};
 use crate::discharge::{Discharge, Shape};
-use crate::library::ROW;
+use crate::doubt::{self, Doubt};
+use crate::library::{Loads, Refusal, ROW};
 use crate::number::{hundredths, tenths};
 use crate::units::Units;
 
@@ -14,15 +15,42 @@ pub const PROGRAM: &str = concat!("silo ", env!("CARGO_PKG_VERSION"), ", ENV 199
 /// Lines of a text about the order, such as project and customer: a name and what it says.
 pub type Labels = Vec<(&'static str, String)>;
 
+/// What a file says of a silo beside its sheet.
+#[derive(Clone, Copy)]
+pub struct Said<'a> {
+    pub file: &'a str,
+    pub origin: &'a Origin,
+    /// The shell has ring stiffeners.
+    pub stiffened: bool,
+    pub labels: &'a Labels,
+}
+
 pub struct Report<'a> {
     pub file: &'a str,
     pub silo: &'a Description,
     pub origin: &'a Origin,
     pub labels: &'a Labels,
     pub units: Units,
+    pub stiffened: bool,
+    /// The silo is written as a sheet of bytes and not as a text.
+    pub of_sheet: bool,
+    /// The loads of the same silo at each strake's lower edge, the last of which is the wall's foot.
+    pub edges: Loads,
 }
 
-impl Report<'_> {
+impl<'a> Report<'a> {
+    /// Of a silo that the library accepts.
+    pub fn of(silo: &'a Description, said: Said<'a>, units: Units) -> Result<Report<'a>, Refusal> {
+        let Said { file, origin, stiffened, labels } = said;
+        let edges = Loads::of(&silo.at_edges().to_bytes(), silo.strakes.len())?;
+        Ok(Report { file, silo, origin, labels, units, stiffened, of_sheet: false, edges })
+    }
+
+    /// The loads at the wall's foot, z = V.
+    pub fn foot(&self) -> &[u32] {
+        self.edges.rows().last().unwrap_or(&[0; ROW])
+    }
+
     /// The product's numbers and where they come from.
     pub fn product(&self) -> String {
         let product = &self.silo.product;
@@ -43,6 +71,12 @@ impl Report<'_> {
 
     pub fn discharge(&self) -> Discharge {
         Discharge::of(self.silo)
+    }
+
+    /// A circle whose wall is neither concrete nor stiffened, so that it is thin where d_c/t is over 200 (1.4.15.3).
+    pub fn is_thin(&self) -> bool {
+        let circle = matches!(self.silo.section, Section::Circle(_));
+        circle && self.origin.wall != Some(Wall::Concrete) && !self.stiffened
     }
 
     /// A depth's numbers as ENV names them, and their units.
@@ -73,7 +107,7 @@ impl Report<'_> {
         let flat_and_squat = silo.is_flat() && discharge.shape != Shape::Slender;
         let of_loads = [
             Some(wall_load(&discharge)),
-            Some(patch(silo)),
+            Some(self.patch()),
             self.unreduced(),
             flat_and_squat.then(|| heap(silo)),
             (!silo.is_flat()).then(|| TRANSITION.to_string()),
@@ -84,16 +118,60 @@ impl Report<'_> {
         notes
     }
 
-    /// Those of the rules, the grain and the product, which every output has.
+    /// What is improbable in this silo.
+    pub fn doubts(&self) -> Vec<Doubt> {
+        doubt::doubts(self.silo, self.origin)
+    }
+
+    /// Doubts, then those of the rules, the grain and the product, which every output has.
     pub fn notes_of_silo(&self) -> Vec<String> {
         let silo = self.silo;
         let notes = [
             Some(EDITION.to_string()),
             (silo.headroom > 0).then(|| headroom(silo)),
+            self.origin.has_own_weight(&silo.product).then(|| own_weight(silo)),
             self.origin.has_friction_on_steel(&silo.product).then(|| friction(silo)),
             (silo.product.factor == 0).then(|| blank_factor(silo)),
         ];
-        notes.into_iter().flatten().collect()
+        let doubts = self.doubts();
+        doubts.iter().map(Doubt::shown).chain(notes.into_iter().flatten()).collect()
+    }
+
+    /// Why the patch acts on squares, of a circle that is not thin.
+    pub fn stiffness(&self) -> &'static str {
+        match self.origin.wall {
+            Some(Wall::Concrete) => "is concrete",
+            _ => "has stiffeners",
+        }
+    }
+
+    /// Where the patch load acts (5.2.1.1 and 5.24).
+    fn patch(&self) -> String {
+        let silo = self.silo;
+        let side_in_tenths = silo.section.patch_side();
+        let side = tenths(side_in_tenths);
+        let squares = format!("two opposite squares of s = {side} mm at any place of the wall");
+        let place = match silo.section {
+            Section::Circle(_) if self.is_thin() => {
+                let others = match self.origin.wall {
+                    Some(_) => "",
+                    None => {
+                        "; on a concrete or stiffened wall on two opposite squares (5.2.1.1, 4)"
+                    }
+                };
+                format!("a band s = {side} mm high at any depth, p_p times the cosine of the angle round the shell (5.10, 5.11){others}")
+            }
+            Section::Circle(_) => {
+                format!("{squares}, which {} (5.2.1.1, 4; 5.10)", self.stiffness())
+            }
+            Section::Rectangle(..) => format!("{squares} (5.10)"),
+        };
+        let lower = match 10 * silo.grain_height() < side_in_tenths {
+            true if silo.headroom == 0 => " The wall is lower than s.",
+            true => " The grain at the wall is lower than s.",
+            false => "",
+        };
+        format!("p_he is without the patch load p_p, which is to be added, as p_he + p_p of the strakes has it: it acts on {place}.{lower}")
     }
 
     /// What clause 5.3 lets be less in a squat silo.
@@ -160,6 +238,16 @@ fn wall_load(discharge: &Discharge) -> String {
     format!("P_w is the filling value; {discharge}.")
 }
 
+/// What a weight of one's own has to be.
+fn own_weight(silo: &Description) -> String {
+    let weight = u64::from(silo.product.weight);
+    format!(
+        "Own weight: table 7.1's are upper limits (7.2, 1); if {weight} N/m3 is a measured mean, it needs at least {} N/m3 (times 1.15, \
+         7.3.1, 3).",
+        (115 * weight).div_ceil(100)
+    )
+}
+
 fn friction(silo: &Description) -> String {
     format!(
         "Friction {} is that of table 7.1 on steel; it does not hold for corrugated walls (note 4 to the table).",
@@ -174,38 +262,32 @@ fn eccentricity(silo: &Description) -> String {
     )
 }
 
-/// Where the patch load acts (5.2.1.1 and 5.24).
-fn patch(silo: &Description) -> String {
-    let side_in_tenths = silo.section.patch_side();
-    let side = tenths(side_in_tenths);
-    let place = match silo.section {
-        Section::Circle(_) => {
-            format!(
-                "a band s = {side} mm high at any depth, p_p times the cosine of the angle round the shell (5.10, 5.11)"
-            )
-        }
-        Section::Rectangle(..) => {
-            format!("two opposite squares of s = {side} mm at any place of the wall (5.10)")
-        }
-    };
-    let lower = match 10 * silo.grain_height() < side_in_tenths {
-        true if silo.headroom == 0 => " The wall is lower than s.",
-        true => " The grain at the wall is lower than s.",
-        false => "",
-    };
-    format!("p_he and the strakes' numbers are without the patch load p_p, which is to be added: it acts on {place}.{lower}")
-}
-
 /// Lines of whole words, each at most so many characters wide unless one word is wider.
 pub fn wrapped(text: &str, width: usize) -> Vec<String> {
+    filled(text.split_whitespace(), width)
+}
+
+/// The same, broken behind commas and semicolons alone where the parts between them fit a line.
+pub fn wrapped_in_parts(text: &str, width: usize) -> Vec<String> {
+    let words: Vec<&str> = text.split_whitespace().collect();
+    let parts = words.chunk_by(|word, _| !word.ends_with([',', ';'])).map(|part| part.join(" "));
+    let parts = parts.flat_map(|part| match part.chars().count() <= width {
+        true => vec![part],
+        false => wrapped(&part, width),
+    });
+    filled(parts, width)
+}
+
+fn filled<T: AsRef<str>>(parts: impl Iterator<Item = T>, width: usize) -> Vec<String> {
     let mut lines: Vec<String> = Vec::new();
-    for word in text.split_whitespace() {
+    for part in parts {
+        let part = part.as_ref();
         match lines.last_mut() {
-            Some(line) if line.chars().count() + 1 + word.chars().count() <= width => {
+            Some(line) if line.chars().count() + 1 + part.chars().count() <= width => {
                 *line += " ";
-                *line += word;
+                *line += part;
             }
-            _ => lines.push(word.to_string()),
+            _ => lines.push(part.to_string()),
         }
     }
     lines

@@ -2,9 +2,13 @@
 
 mod depths;
 mod hopper;
+mod line;
 mod product;
 mod read;
+mod understood;
 mod write;
 
-pub use read::{is_silo, read, Error, Text};
+pub use line::Line;
+pub use read::{is_silo, read, Text};
+pub use understood::{understood, Understood};
 pub use write::{runs, write};

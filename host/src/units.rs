@@ -1,5 +1,7 @@
 //! The units in which loads are written.
 
+use crate::fraction::Fraction;
+
 /// Whole Pa, N/m and N as the library gives them, or kPa, kN/m and kN with three digits behind the point, which lose nothing.
 #[derive(Clone, Copy, Debug, Default, PartialEq, Eq)]
 pub enum Units {
@@ -34,8 +36,25 @@ impl Units {
     pub fn show(self, load: u32) -> String {
         match self {
             Units::Whole => load.to_string(),
-            Units::Kilo => format!("{}.{:03}", load / 1000, load % 1000),
+            Units::Kilo => thousandths(load.into()),
         }
+    }
+
+    /// So many Pa in the unit of pressures.
+    pub fn pascals(self, pascals: Fraction) -> Fraction {
+        match self {
+            Units::Whole => pascals,
+            Units::Kilo => pascals.over(Fraction::whole(1000_u32)),
+        }
+    }
+
+    /// The same as written, marked where it is rounded to thousandths of a Pa.
+    pub fn exact(self, pascals: Fraction) -> String {
+        let digits = match self {
+            Units::Whole => 3,
+            Units::Kilo => 6,
+        };
+        self.pascals(pascals).about(digits)
     }
 
     /// A load that is negative where it acts inward.
@@ -43,4 +62,9 @@ impl Units {
         let sign = if load < 0 { "-" } else { "" };
         format!("{sign}{}", self.show(load.unsigned_abs()))
     }
+}
+
+/// With three digits behind the point.
+pub fn thousandths(number: u128) -> String {
+    format!("{}.{:03}", number / 1000, number % 1000)
 }

@@ -1,6 +1,13 @@
 //! The value of a line: one quantity with its unit, or a list of quantities.
 
-use crate::number::{comma, in_thousands, Decimal, Measure};
+mod list;
+
+pub use list::{list, pair, plain_list};
+
+use crate::likely;
+use crate::message::{Mend, Number, Slip, What};
+use crate::name;
+use crate::number::{in_thousands, Decimal, Measure, Quantity};
 
 #[derive(Clone, Copy, Debug, PartialEq)]
 enum Token<'a> {
@@ -11,7 +18,8 @@ enum Token<'a> {
     Separator,
 }
 
-const TIMES: [char; 4] = ['x', 'X', '×', '*'];
+/// Signs between a count and a length.
+pub const TIMES: [char; 4] = ['x', 'X', '×', '*'];
 
 fn is_separator(c: char) -> bool {
     c == ',' || c == ';'
@@ -68,121 +76,170 @@ fn tokens(value: &str) -> Vec<Token<'_>> {
     tokens
 }
 
+/// Without the white space that stands on both sides of a slash, as in `780 kg / m3`.
+fn closed(value: &str) -> String {
+    let mut parts = value.split('/');
+    let mut text = parts.next().unwrap_or_default().to_string();
+    for part in parts {
+        let spaced = text.ends_with(char::is_whitespace) && part.starts_with(char::is_whitespace);
+        text.truncate(if spaced { text.trim_end().len() } else { text.len() });
+        text.push('/');
+        text += if spaced { part.trim_start() } else { part };
+    }
+    text
+}
+
 /// One quantity: a number and its unit.
-pub fn quantity(value: &str, measure: &Measure) -> Result<u64, String> {
+pub fn quantity(value: &str, measure: &Measure) -> Result<u64, Slip> {
+    let value = &closed(value);
+    let wrong = |slip: Number| Slip::new(slip).at(value);
+    if let Some(slip) = apostrophes(value) {
+        return Err(slip);
+    }
+    if let Some(read) = measure.in_inches(value) {
+        return read;
+    }
     match &tokens(value)[..] {
-        [] => Err(format!("no value; {} is due", measure.name)),
+        [] => Err(Slip::new(Number::NoValue(measure.quantity))),
+        tokens if are_extremes(tokens, measure) => Err(wrong(Number::Extremes)),
         [Token::Number(number)] => one(number, None, measure),
-        [Token::Number(number), Token::Word(unit)] => one(number, Some(unit), measure),
-        [Token::Number(first), Token::Number(second), ..] => {
-            let mend = match in_thousands(&[first, second]) {
-                true => format!("; write {first}{second} without a space if it is one"),
-                false => String::new(),
-            };
-            Err(format!("{value}: two numbers where one is due{mend}"))
+        [Token::Number(number), Token::Word(unit)] => {
+            one(number, Some(unit), measure).map_err(|slip| with_likely(slip, value, measure))
         }
-        [Token::Number(_), ..] => Err(format!("{value}: not one number with its unit")),
-        _ => Err(format!("{value}: not a number; {} is due", measure.name)),
+        [Token::Number(first), Token::Number(second), rest @ ..] => {
+            Err(wrong(Number::TwoNumbers).with(joined(first, second, rest)))
+        }
+        [Token::Number(_), ..] => Err(meant(wrong(Number::NotOneNumber), value, measure)),
+        _ => Err(in_words(value, measure)),
     }
 }
 
-fn one(number: &str, unit: Option<&str>, measure: &Measure) -> Result<u64, String> {
-    let decimal = Decimal::read(number)?;
-    if let Some(why) = unit.and_then(|unit| measure.instead(decimal, number, unit)) {
-        return Err(why);
-    }
-    let power = measure.power(decimal, number, unit)?;
-    let written = format!("{number} {}", unit.unwrap_or(""));
-    measure.whole(decimal, power, written.trim_end())
+/// Two groups of digits as one number in thousands, where they can be.
+fn joined(first: &str, second: &str, rest: &[Token]) -> Option<Mend> {
+    let unit = match rest {
+        [Token::Word(unit)] => format!(" {unit}"),
+        _ => String::new(),
+    };
+    let joined = in_thousands(&[first, second]).then(|| format!("{first}{second}"))?;
+    let whole = joined.clone() + &unit;
+    Some(Mend::plain(joined).in_whole(whole))
 }
 
-/// `COUNT x NUMBER UNIT`, where the count and the unit may be left out.
-struct Item<'a> {
-    count: u64,
-    number: &'a str,
-    unit: Option<&'a str>,
+/// A value that is a quantity inside its limits.
+fn is_good(value: &str, measure: &Measure) -> bool {
+    quantity(value, measure).is_ok_and(|number| measure.is_inside(number))
 }
 
-/// Items between commas. A unit stands for the items before it that have none.
-fn items<'a>(tokens: Vec<Token<'a>>, value: &str) -> Result<Vec<Item<'a>>, String> {
-    let mut items = Vec::new();
-    for part in tokens.split(|token| *token == Token::Separator) {
-        items.push(item(part).map_err(|why| format!("{value}: {why}"))?);
+/// A slip of a value that is not one number with its unit, with what was meant by it.
+fn meant(slip: Slip, value: &str, measure: &Measure) -> Slip {
+    if let Some(slip) = another_mean(value, measure) {
+        return slip.at(value);
     }
-    let mut following = None;
-    for item in items.iter_mut().rev() {
-        item.unit = item.unit.or(following);
-        following = item.unit;
+    let digits = likely::digits_for_letters(value);
+    let digits = digits.filter(|digits| is_good(digits, measure));
+    let mend = digits.map(Mend::plain);
+    match mend.or_else(|| likely::metres_and_rest(value, measure)) {
+        Some(mend) => slip.with([mend]),
+        None => beside_words(slip, value, measure),
     }
-    Ok(items)
 }
 
-/// The first number that has a comma between its digits.
-fn with_comma<'a>(tokens: &[Token<'a>]) -> Option<&'a str> {
-    tokens.iter().find_map(|token| match token {
-        Token::Number(number) if number.contains(',') => Some(*number),
+/// A mass or an angle in place of what is due, which is said to be a mean or measured.
+fn another_mean(value: &str, measure: &Measure) -> Option<Slip> {
+    match tokens(value)[..] {
+        [Token::Number(number), Token::Word(unit), Token::Word(word)] if likely::is_mean(word) => {
+            measure.instead(Decimal::read(number).ok()?, unit)
+        }
         _ => None,
+    }
+}
+
+/// A slip of a value with one number and words beside it: the number alone, or what the words make of it.
+fn beside_words(slip: Slip, value: &str, measure: &Measure) -> Slip {
+    match likely::only_number(value, measure) {
+        Some(Ok(mend)) => slip.with([mend]),
+        Some(Err(other)) => other.at(value),
+        None => slip,
+    }
+}
+
+/// A slip of a number and the word behind it, with what was meant by both.
+fn with_likely(slip: Slip, value: &str, measure: &Measure) -> Slip {
+    match &*slip.what {
+        What::Number(Number::UnknownUnit { .. }) => match likely::metres_and_rest(value, measure) {
+            Some(mend) => slip.with([mend]),
+            None => slip,
+        },
+        What::Number(Number::HasNoUnit(_)) if slip.mends.is_empty() => {
+            let other = beside_words(slip.clone(), value, measure);
+            let may_be_unit = matches!(&*other.what, What::Number(Number::Words(_)));
+            match may_be_unit && !value.contains('(') {
+                true => slip,
+                false => other,
+            }
+        }
+        _ => slip,
+    }
+}
+
+/// A value that starts with no number.
+fn in_words(value: &str, measure: &Measure) -> Slip {
+    let angle = value.to_lowercase();
+    let angle = angle.strip_prefix("tan").map(|angle| angle.trim_matches(['(', ')', ' ', '°']));
+    let angle = angle.and_then(|angle| Decimal::read(angle.trim_end_matches(" deg")).ok());
+    if let Some(slip) = angle.and_then(|angle| measure.instead(angle, "deg")) {
+        return slip;
+    }
+    let is_0 = measure.limits.0 == 0 && name::is_none(value);
+    let slip = Slip::new(Number::NotANumber(Some(measure.quantity))).at(value);
+    match is_0 {
+        true => slip.with([Mend::plain((measure.show)(0))]),
+        false => beside_words(slip, value, measure),
+    }
+}
+
+/// Two values of a quantity whose mean is due.
+fn are_extremes(tokens: &[Token], measure: &Measure) -> bool {
+    let numbers = tokens.iter().filter(|token| matches!(token, Token::Number(_))).count();
+    numbers == 2 && matches!(measure.quantity, Quantity::Friction | Quantity::Ratio)
+}
+
+/// Marks between thousands, as in 5'000.
+const MARKS: [char; 4] = ['\'', '’', '_', '·'];
+
+/// The first number with marks between its thousands.
+fn apostrophes(value: &str) -> Option<Slip> {
+    let is_part = |c: char| c.is_ascii_digit() || MARKS.contains(&c);
+    let mut parts = value.split(|c: char| !is_part(c));
+    let part = parts.find(|part| {
+        let groups: Vec<&str> = part.split(MARKS).collect();
+        groups.len() > 1 && in_thousands(&groups)
+    })?;
+    let slip = Slip::new(Number::Apostrophe).at(part).with([Mend::plain(part.replace(MARKS, ""))]);
+    Some(within(slip, value, part))
+}
+
+fn one(number: &str, unit: Option<&str>, measure: &Measure) -> Result<u64, Slip> {
+    let unit_behind = unit.map(|unit| format!(" {unit}")).unwrap_or_default();
+    let written = format!("{number}{unit_behind}");
+    if let Some(read) = measure.in_inches(&written) {
+        return read;
+    }
+    // a comma, a sign or a letter is at fault without its unit
+    let decimal = Decimal::read(number).map_err(|slip| slip.between("", &unit_behind))?;
+    if let Some(slip) = unit.and_then(|unit| measure.instead(decimal, unit)) {
+        return Err(slip.at(written));
+    }
+    let power = measure.power(decimal, number, unit);
+    let whole = power.and_then(|power| measure.whole(decimal, power, number));
+    whole.map_err(|slip| match slip.part.is_empty() {
+        true => slip.at(written),
+        false => slip,
     })
 }
 
-fn item<'a>(part: &[Token<'a>]) -> Result<Item<'a>, String> {
-    if let Some(number) = with_comma(part) {
-        return Err(comma(number, true));
-    }
-    let (count, rest) = match part {
-        [Token::Number(count), Token::Times, rest @ ..] => {
-            let whole = count.parse().map_err(|_| format!("{count} is not a count"))?;
-            (whole, rest)
-        }
-        rest => (1, rest),
-    };
-    match rest {
-        [Token::Number(number)] => Ok(Item { count, number, unit: None }),
-        [Token::Number(number), Token::Word(unit)] => Ok(Item { count, number, unit: Some(unit) }),
-        [] => Err("a number is missing before or after a comma".to_string()),
-        [Token::Number(first), Token::Number(second), ..] => {
-            let mend = match in_thousands(&[first, second]) {
-                true => format!(", or a space is too much in {first}{second}"),
-                false => String::new(),
-            };
-            Err(format!("a comma is missing between {first} and {second}{mend}"))
-        }
-        [Token::Word(word), ..] => Err(format!("{word} is not a number")),
-        _ => Err(NO_LIST.to_string()),
-    }
-}
-
-const NO_LIST: &str = "not a list of numbers";
-
-/// The quantities of a list, at most `most` of them; `how` says how a list is written.
-pub fn list(value: &str, measure: &Measure, most: usize, how: &str) -> Result<Vec<u64>, String> {
-    if value.is_empty() {
-        return Err("no value; a list is due".to_string());
-    }
-    let mut numbers = Vec::new();
-    for item in items(tokens(value), value).map_err(|why| why.replace(NO_LIST, how))? {
-        let number = one(item.number, item.unit, measure)?;
-        let room = (most - numbers.len()) as u64;
-        if item.count > room {
-            return Err(format!("{value}: more than {most} numbers, which a sheet cannot hold"));
-        }
-        numbers.extend(std::iter::repeat_n(number, item.count as usize));
-    }
-    if numbers.is_empty() {
-        return Err(format!("{value}: a list of no numbers"));
-    }
-    Ok(numbers)
-}
-
-/// Two sides, `A x B UNIT`.
-pub fn pair(value: &str, measure: &Measure) -> Result<(u64, u64), String> {
-    let apart = |token| if token == Token::Times { Token::Separator } else { token };
-    let tokens = tokens(value);
-    if let Some(number) = with_comma(&tokens) {
-        return Err(comma(number, false));
-    }
-    match items(tokens.into_iter().map(apart).collect(), value).as_deref() {
-        Ok([a, b]) => Ok((one(a.number, a.unit, measure)?, one(b.number, b.unit, measure)?)),
-        _ => Err(format!("{value}: two sides are due, such as 4000 x 6000 mm")),
-    }
+/// The mends of a part of a value as whole values; the part is a slice of the value.
+fn within(slip: Slip, value: &str, part: &str) -> Slip {
+    let start = part.as_ptr() as usize - value.as_ptr() as usize;
+    slip.between(&value[..start], &value[start + part.len()..])
 }

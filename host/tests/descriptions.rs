@@ -233,7 +233,7 @@ fn all_broken_limits_are_listed() {
 /// The places of the limits that are broken beside the first, as a person reads them.
 fn others(first: Refusal, silo: &Description) -> Vec<String> {
     let shown = |(refusal, place): (Refusal, place::Place)| {
-        format!("{}: {}: {}", refusal.0, place.field.shown(silo), place.why)
+        format!("{}: {}: {}", refusal.0, place.field.shown(silo), place.slip)
     };
     place::others(first, silo).into_iter().map(shown).collect()
 }
@@ -266,7 +266,7 @@ fn offered_headrooms_are_accepted() {
     for _ in 0..100_000 {
         let silo = slipped(&mut random);
         let accepted = |headroom: u32| Description { headroom, ..silo.clone() }.is_accepted();
-        let why = |refusal| place::places(refusal, &silo).remove(0).why;
+        let why = |refusal| place::places(refusal, &silo).remove(0).slip.to_string();
         let mend = match library::verdict(&silo.to_bytes()) {
             Err(Refusal::HEADROOM) => why(Refusal::HEADROOM)
                 .split_once(": ")
@@ -298,7 +298,10 @@ fn offered_sides_are_accepted() {
     for _ in 0..10_000 {
         let shorter = 500 + random.below(16_000) as u32;
         let longer = 3 * shorter + 1 + random.below(50_000 - 3 * shorter as usize) as u32;
-        let why = place::places(Refusal::UNEQUAL_SIDES, &with(longer, shorter)).remove(0).why;
+        let why = place::places(Refusal::UNEQUAL_SIDES, &with(longer, shorter))
+            .remove(0)
+            .slip
+            .to_string();
         let numbers: Vec<u32> = why.split(' ').filter_map(|word| word.parse().ok()).collect();
         let [long, short, most, least, bins, each, width] = numbers[..] else { panic!("{why}") };
         assert_eq!([long, short, width], [longer, shorter, shorter]);

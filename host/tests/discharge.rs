@@ -1,15 +1,19 @@
 //! Slender and squat silos: the factors shown beside the loads that the library answers, and the kind on every output.
 
+mod any;
 mod common;
+mod wrapped;
 
+use any::any_silo;
 use common::{text_with, Random, FLAT};
 use silo::commands::{self, Format};
-use silo::description::{Description, Product, Section};
+use silo::description::Description;
 use silo::discharge::{Discharge, Shape};
 use silo::fraction::Fraction;
 use silo::library::Loads;
 use silo::text;
 use silo::units::Units;
+use wrapped::unwrapped;
 
 /// Places of a depth's row.
 const P_HF: usize = 1;
@@ -17,54 +21,8 @@ const P_WF: usize = 2;
 const P_HE: usize = 5;
 const P_WE: usize = 6;
 
-/// A wall of strakes as high as `height`, or somewhat higher where the last strake would be too low; mm.
-fn strakes(random: &mut Random, height: u32) -> Vec<u16> {
-    let count = height.div_ceil(3000).max(1) + random.below(3) as u32;
-    let each = (height / count).clamp(200, 3000);
-    let mut strakes = vec![each as u16; count.min(24) as usize];
-    let rest = height.saturating_sub(each * strakes.len() as u32);
-    strakes[0] = (u32::from(strakes[0]) + rest).min(3000) as u16;
-    strakes
-}
-
-/// A silo of about so many hundredths h/d_c; most are accepted.
-fn any_silo(random: &mut Random, slenderness: u32) -> Description {
-    let width = random.of(&[500, 733, 2000, 4999, 9000, 12_000, 20_011, 50_000]);
-    let width = width + random.below(width as usize / 10) as u32 * random.below(2) as u32;
-    let width = width.min(50_000);
-    let height = (u64::from(width) * u64::from(slenderness) / 100) as u32;
-    let (hopper_height, hopper_run) = match random.below(3) {
-        0 => (height / 3, 1 + height / 9),
-        _ => (0, 0),
-    };
-    let other = width + random.below(3 * width as usize) as u32;
-    let silo = Description {
-        section: random.of(&[
-            Section::Circle(width),
-            Section::Rectangle(width, other.min(50_000)),
-            Section::Rectangle(other.min(50_000), width),
-        ]),
-        product: Product {
-            weight: 1000 + random.below(29_001) as u32,
-            ratio: 20 + random.below(81) as u16,
-            friction: 10 + random.below(91) as u16,
-            factor: random.of(&[0, 100, 101, 130, 135, 140, 177, 200]),
-        },
-        filling_eccentricity: 0,
-        outlet_eccentricity: width / 5,
-        hopper_height,
-        hopper_run,
-        strakes: strakes(random, height - hopper_height),
-        depths: Vec::new(),
-        headroom: 0,
-    };
-    let depths = silo.edges().map(|(_, edge)| edge as u32).collect();
-    let headroom = random.below(1 + silo.wall_height() as usize) as u32 * random.below(2) as u32;
-    Description { depths, headroom, ..silo }
-}
-
-fn up(factor: Fraction, pressure: u32) -> u64 {
-    (factor.top * u64::from(pressure)).div_ceil(factor.bottom)
+fn up(factor: Fraction, pressure: u32) -> u128 {
+    factor.times(Fraction::whole(pressure)).up()
 }
 
 /// p_he, p_we and the strakes' numbers are the filling pressures times the factors shown, rounded up once.
@@ -84,8 +42,8 @@ fn the_factors_shown_are_those_that_act() {
                 continue;
             }
             for (row, strake) in loads.rows().zip(loads.strakes()) {
-                assert_eq!(u64::from(row[P_HE]), up(discharge.horizontal, row[P_HF]), "{silo:?}");
-                assert_eq!(u64::from(row[P_WE]), up(discharge.friction, row[P_WF]), "{silo:?}");
+                assert_eq!(u128::from(row[P_HE]), up(discharge.horizontal, row[P_HF]), "{silo:?}");
+                assert_eq!(u128::from(row[P_WE]), up(discharge.friction, row[P_WF]), "{silo:?}");
                 assert_eq!(*strake, row[P_HE], "{silo:?}");
                 compared += 1;
             }
@@ -171,11 +129,11 @@ fn rounded_factors_are_marked_on_every_output() {
     let text = text_with(&silo);
     let loads = |format| {
         let outcome = commands::loads("bin.silo", text.as_bytes(), format, Units::Whole);
-        assert_eq!((outcome.status, outcome.messages.as_str()), (0, ""));
+        assert!(outcome.status == 0 && common::only_doubts(&outcome.messages));
         String::from_utf8(outcome.output).expect("UTF-8")
     };
     let shown = "squat silo: h/d_c about 1.22222, discharge factors C_h about 1.17778 and C_w about 1.04444 (5.34, 5.35)";
-    assert!(loads(Format::Table).contains(&format!("\n{shown}\n")));
+    assert!(unwrapped(&loads(Format::Table)).contains(shown));
     let csv = loads(Format::Csv);
     assert_eq!(
         ["kind", "h/d_c", "C_h", "C_w"].map(|name| cells(&csv, name)),

@@ -8,11 +8,14 @@ mod silos;
 
 use common::{sample, Random};
 use page::{bare, Page, Text};
+use silo::basis::Basis;
 use silo::description::Description;
 use silo::discharge::{Discharge, Shape};
+use silo::doubt;
 use silo::draw;
+use silo::fraction::Fraction;
 use silo::library::Loads;
-use silo::report::{Labels, Report, PROGRAM};
+use silo::report::{Labels, Report, Said, PROGRAM};
 use silo::units::Units;
 use silos::{any_silo, case, described, filled, labels, texts};
 use std::path::PathBuf;
@@ -21,40 +24,102 @@ struct Drawing {
     name: String,
     silo: Description,
     said: Vec<String>,
+    /// The strakes' table, a strake a row.
+    rows: Vec<Vec<String>>,
     page: Page,
 }
 
-fn drawing(name: &str, text: &str, labels: &Labels, units: Units) -> Drawing {
-    let (silo, origin) = described(text);
-    let loads = |silo: &Description| Loads::of(&silo.to_bytes(), silo.strakes.len());
-    let refused = |refusal| panic!("{name}: {refusal:?}");
+fn loads(silo: &Description) -> Loads {
+    let loads = Loads::of(&silo.to_bytes(), silo.strakes.len());
+    loads.unwrap_or_else(|refusal| panic!("{silo:?}: {refusal:?}"))
+}
+
+/// The same silo with depths for curves.
+fn for_curves(silo: &Description) -> Description {
     let edges = silo.edges().map(|(_, edge)| edge as u32);
     let mut depths: Vec<u32> = edges.chain([0, silo.headroom]).collect();
     depths.sort_unstable();
     depths.dedup();
-    let curves = loads(&Description { depths, ..silo.clone() }).unwrap_or_else(refused);
-    let loads = loads(&silo).unwrap_or_else(refused);
-    let file = format!("orders/{name}.silo");
-    let report = Report { file: &file, silo: &silo, origin: &origin, labels, units };
-    let svg = draw::page(&report, &loads, &curves);
-    let mut said = report.notes();
+    Description { depths, ..silo.clone() }
+}
+
+/// A strake's number, height and lower edge, its five pressures, and p_he + p_p.
+fn rows(report: &Report) -> Vec<Vec<String>> {
+    let edges = report.silo.edges().zip(report.edges.rows()).enumerate();
+    let row = |(i, ((height, edge), row)): (usize, ((u16, u64), &[u32]))| {
+        let pressures = [row[1], row[5], row[2], row[6], row[7], row[5] + row[7]];
+        let lengths = [i as u64 + 1, height.into(), edge].map(|number| number.to_string());
+        let shown = pressures.map(|pressure| report.units.show(pressure));
+        lengths.into_iter().chain(shown).collect()
+    };
+    edges.map(row).collect()
+}
+
+/// Everything but the strakes' table.
+fn said(report: &Report, loads: &Loads) -> Vec<String> {
+    let mut said = doubt::drawn(&report.doubts(), report.notes());
     said.extend([report.product(), report.discharge().shown()]);
-    said.extend(labels.iter().map(|(_, text)| text.clone()));
-    said.extend([format!("{name}.silo"), PROGRAM.to_string()]);
-    let is_edge = |row: &&[u32]| silo.edges().any(|(_, edge)| edge == u64::from(row[0]));
-    let edges = curves.rows().filter(is_edge);
-    let mut numbers: Vec<u32> = edges.flat_map(|row| [1, 2, 5, 6, 7].map(|i| row[i])).collect();
+    said.extend(report.labels.iter().map(|(_, text)| text.clone()));
+    said.extend([report.file.replace("orders/", ""), PROGRAM.to_string()]);
+    let bottom: Vec<u32> = match report.silo.is_flat() {
+        true => vec![loads.floor()],
+        false => loads.hopper().flat_map(|(_, normal, friction)| [normal, friction]).collect(),
+    };
+    said.extend(bottom.into_iter().map(|number| report.units.show(number)));
+    said.extend(made_with(report));
+    let basis = Basis::of(report.silo);
+    said.push(format!("By hand, q at V: R {} mm; p_hf: P ", basis.radius.about(3)));
+    said.push(format!("; beta {}", basis.beta.shown()));
+    let n3 = |n3: u128| format!(", n3 {}", report.units.exact(Fraction::whole(n3)));
+    said.extend(basis.hopper.map(|hopper| n3(hopper.n3)));
+    said
+}
+
+/// The equation of each load with its Ks and mu, and p_vf and P_w at the wall's foot.
+fn made_with(report: &Report) -> Vec<String> {
+    let Report { silo, units, .. } = report;
+    let hundredths = |times: u32, mean: u16| {
+        let decimal = format!("{:.4}", f64::from(times * u32::from(mean)) / 10_000.0);
+        decimal.trim_end_matches('0').trim_end_matches('.').to_string()
+    };
+    let [low, high] = [90, 115].map(|times| {
+        [silo.product.ratio, silo.product.friction].map(|mean| hundredths(times, mean))
+    });
+    let foot = report.edges.rows().last().expect("a foot");
+    let (vertical, wall) = (units.show(foot[3]), units.show(foot[4]));
+    let mut said = vec![
+        "equation 5.3 5.21 5.2 5.20 5.24".to_string(),
+        format!("1.15 Ks (7.1, 7.3) {} the largest", [high[0].as_str(); 5].concat()),
+        format!("0.9 mu (7.1) {} at any", [low[1].as_str(); 3].concat()),
+        format!("1.15 mu (7.3) {} place", [high[1].as_str(); 2].concat()),
+        format!("p_vf at V {vertical} {} (5.4)", units.pressure()),
+        format!("0.9 Ks = {}, 0.9 mu = {} (7.2)", low[0], low[1]),
+        format!("P_w at V {wall} {} (5.7)", units.per_metre()),
+        format!("1.15 Ks = {}, 1.15 mu = {} (7.3)", high[0], high[1]),
+    ];
     match silo.is_flat() {
-        true => numbers.push(loads.floor()),
-        false => {
-            numbers.extend(loads.hopper().flat_map(|(_, normal, friction)| [normal, friction]))
-        }
+        true => said.push("Flat floor, vertical load 1.2 p_vf at V (5.13)".to_string()),
+        false => said.extend([
+            "P_n with p_vf at V (5.15 to 5.17), n3 (5.18)".to_string(),
+            format!("P_t (5.19), 1.15 mu = {} (7.3)", high[1]),
+        ]),
     }
-    said.extend(numbers.into_iter().map(|number| units.show(number)));
+    said
+}
+
+fn drawing(name: &str, text: &str, labels: &Labels, units: Units) -> Drawing {
+    let (silo, origin) = described(text);
+    let (curves, loads) = (loads(&for_curves(&silo)), loads(&silo));
+    let file = format!("orders/{name}.silo");
+    let beside = Said { file: &file, origin: &origin, stiffened: false, labels };
+    let report = Report::of(&silo, beside, units);
+    let report = report.unwrap_or_else(|refusal| panic!("{name}: {refusal:?}"));
+    let svg = draw::page(&report, &loads, &curves);
     let folder = PathBuf::from(env!("CARGO_TARGET_TMPDIR")).join("drawings");
     std::fs::create_dir_all(&folder).expect("a folder");
     std::fs::write(folder.join(format!("{name}.svg")), &svg).expect("a drawing");
-    Drawing { name: name.to_string(), silo, said, page: Page::read(&svg) }
+    let (said, rows) = (said(&report, &loads), rows(&report));
+    Drawing { name: name.to_string(), silo, said, rows, page: Page::read(&svg) }
 }
 
 /// Every case and sample, without labels and with those of the greatest length, in Pa and kPa.
@@ -98,6 +163,13 @@ fn heights(page: &Page) -> (f64, f64) {
     ends(page.shapes("wall").flatten().map(|point| point.1))
 }
 
+/// The chart's corners, from the upper left one on.
+fn chart(page: &Page) -> &[(f64, f64)] {
+    let brim = heights(page).0;
+    let mut frames = page.shapes("frame").filter(|frame| frame.len() == 4);
+    frames.find(|frame| frame[0].1 == brim).expect("a chart")
+}
+
 /// Of the grain's surface.
 fn surface(page: &Page) -> f64 {
     ends(page.shapes("grain").flatten().map(|point| point.1)).0
@@ -137,8 +209,7 @@ fn surface_has_its_depth(drawing: &Drawing) {
     let [on_grain, in_chart] = lines[..] else {
         return assert!(lines.is_empty() && silo.headroom == 0, "{name}: {lines:?}");
     };
-    let mut frames = page.shapes("frame").filter(|frame| frame.len() == 4);
-    let chart = frames.find(|frame| frame[0].1 == brim).expect("a chart");
+    let chart = chart(page);
     let due = brim + (chart[2].1 - brim) * part(silo.wall_height());
     assert!(on_grain[0].1 == surface && (in_chart[0].1 - due).abs() < 0.11, "{name}: {lines:?}");
     let tips = |y: f64| page.shapes("arrow").map(|head| head[0]).filter(move |tip| tip.1 == y);
@@ -177,18 +248,84 @@ fn arrows_at_openings(drawing: &Drawing) {
     }
 }
 
-/// A line goes from each of the five points of the slope to the row beside it.
-fn hopper_has_leaders(drawing: &Drawing) {
-    let points: Vec<(f64, f64)> = drawing.page.circles("point").collect();
-    assert_eq!(points.len(), if drawing.silo.is_flat() { 0 } else { 5 });
-    let leaders = drawing.page.shapes("leader").filter(|line| points.contains(&line[0]));
-    for (i, (point, leader)) in points.iter().zip(leaders).enumerate() {
-        assert_eq!(leader[0], *point);
-        let end = leader[leader.len() - 1];
+/// Each strake has its row, in order.
+fn strakes_have_rows(drawing: &Drawing) {
+    let words: Vec<&str> = drawing.page.texts.iter().map(|text| text.words.as_str()).collect();
+    let places = drawing.rows.iter().map(|row| words.windows(row.len()).position(|w| w == row));
+    let places: Option<Vec<usize>> = places.collect();
+    let places = places.unwrap_or_else(|| panic!("{}: not {:?}", drawing.name, drawing.rows));
+    assert!(places.is_sorted(), "{}: {places:?}", drawing.name);
+}
+
+/// The depth axis ends with the wall's height, at the foot.
+fn foot_has_its_depth(drawing: &Drawing) {
+    let (page, wall) = (&drawing.page, drawing.silo.wall_height().to_string());
+    let (right, foot) = chart(page)[2];
+    let at_foot = |text: &&Text| text.low.0 > right && text.low.1 < foot && foot < text.high.1;
+    let depths: Vec<&str> = page.texts.iter().filter(at_foot).map(|text| &*text.words).collect();
+    assert_eq!(depths, [wall], "{}", drawing.name);
+}
+
+/// Five points on the slope, or none where they would run together; a line goes from each of them to its row, or k stands beside it
+/// as far as there is room.
+fn hopper_has_points(drawing: &Drawing) {
+    let page = &drawing.page;
+    let points: Vec<(f64, f64)> = page.circles("point").collect();
+    assert!(points.is_empty() || points.len() == 5 && !drawing.silo.is_flat(), "{}", drawing.name);
+    let mut pairs = points.windows(2);
+    assert!(pairs.all(|pair| (pair[0].0 - pair[1].0).hypot(pair[0].1 - pair[1].1) > 5.8));
+    let leaders: Vec<_> = page.shapes("leader").filter(|line| points.contains(&line[0])).collect();
+    assert!(leaders.is_empty() || leaders.len() == 5, "{}: {leaders:?}", drawing.name);
+    for (i, point) in points.iter().enumerate() {
         let k = bare(&format!("k = {}", 4 - i));
-        let row = drawing.page.texts.iter().find(|text| bare(&text.words) == k).expect("a row");
-        assert!(row.low.0 > end.0 && row.low.1 < end.1 && end.1 < row.high.1, "{row:?} {end:?}");
+        let mut named = page.texts.iter().filter(|text| bare(&text.words) == k);
+        match leaders.get(i) {
+            Some(leader) => {
+                let (end, row) = (leader[leader.len() - 1], named.next().expect("a row"));
+                let level = row.low.1 < end.1 && end.1 < row.high.1;
+                assert!(leader[0] == *point && row.low.0 > end.0 && level, "{row:?} {end:?}");
+            }
+            None if i > 0 && points[1].1 - points[0].1 > 11.1 => {
+                let beside = |text: &Text| (text.low.0 - point.0 - 7.0).abs() < 0.2;
+                assert!(named.any(beside), "{}: {k} is not at {point:?}", drawing.name);
+            }
+            None => {}
+        }
     }
+}
+
+/// Lines from the wall or the slope to rows are apart. Where none lead to the strakes' rows, the last strake has its number in the
+/// silo or beside it.
+fn leaders_can_be_followed(drawing: &Drawing) {
+    let page = &drawing.page;
+    let points: Vec<(f64, f64)> = page.circles("point").collect();
+    let of_hopper = |line: &&Vec<(f64, f64)>| points.contains(&line[0]);
+    let bent = page.shapes("leader").filter(|line| line.len() == 3);
+    let (hopper, strakes): (Vec<_>, Vec<_>) = bent.partition(of_hopper);
+    for pair in strakes.windows(2).chain(hopper.windows(2)) {
+        let steep = |line: &[(f64, f64)]| (line[2].1 - line[1].1) / (line[2].0 - line[1].0);
+        let steepest = steep(pair[0]).abs().max(steep(pair[1]).abs());
+        let apart = (pair[1][1].1 - pair[0][1].1).min(pair[1][2].1 - pair[0][2].1);
+        assert!(apart / steepest.hypot(1.0) > 2.3, "{}: {pair:?}", drawing.name);
+    }
+    if strakes.is_empty() && drawing.silo.headroom == 0 {
+        let (last, walls) = (drawing.silo.strakes.len().to_string(), page.shapes("wall"));
+        let (left, right) = ends(walls.flatten().map(|point| point.0));
+        let is_last = |text: &Text| text.words == last && text.low.0 > left;
+        let mut numbers = page.texts.iter().filter(|text| is_last(text));
+        assert!(numbers.any(|text| text.low.0 < right + 6.0), "{}: no {last}", drawing.name);
+    }
+}
+
+/// Everything has its place and its number.
+fn is_true(drawing: &Drawing) {
+    silo_is_to_scale(drawing);
+    surface_has_its_depth(drawing);
+    arrows_at_openings(drawing);
+    hopper_has_points(drawing);
+    leaders_can_be_followed(drawing);
+    strakes_have_rows(drawing);
+    foot_has_its_depth(drawing);
 }
 
 #[test]
@@ -196,12 +333,31 @@ fn every_drawing_can_be_printed_and_read() {
     let drawings = drawings();
     let faults: String = drawings.iter().flat_map(faults).collect();
     assert!(faults.is_empty(), "{faults}");
-    for drawing in &drawings {
-        silo_is_to_scale(drawing);
-        surface_has_its_depth(drawing);
-        arrows_at_openings(drawing);
-        hopper_has_leaders(drawing);
-    }
+    drawings.iter().for_each(is_true);
+}
+
+/// A wide bin stands above its tables, a narrow one beside them.
+#[test]
+fn a_wide_bin_is_drawn_large() {
+    let width = |wide: &'static str| {
+        let text = case(false, &[("diameter", wide), ("strakes", "3 x 1500 mm")]);
+        let drawing = drawing("wide", &text, &Labels::new(), Units::Whole);
+        let (left, right) = ends(drawing.page.shapes("wall").flatten().map(|point| point.0));
+        right - left
+    };
+    let [wide, narrow] = ["30 m", "5 m"].map(width);
+    assert!(wide > 500.0 && narrow < 200.0, "{wide} {narrow}");
+}
+
+/// Lines that lead to the rows of 24 low strakes could not be followed.
+#[test]
+fn low_strakes_have_numbers_in_place_of_lines() {
+    let leaders = |strakes: &'static str| {
+        let text = case(true, &[("diameter", "20 m"), ("strakes", strakes)]);
+        let drawing = drawing("leaders", &text, &Labels::new(), Units::Whole);
+        drawing.page.shapes("leader").filter(|line| line.len() == 3).count()
+    };
+    assert_eq!(["24 x 200 mm", "24 x 3 m"].map(leaders), [0, 24]);
 }
 
 #[test]
@@ -230,7 +386,7 @@ fn kilopascals_stand_in_every_head() {
     let drawing = drawing("kilo", &text, &Labels::new(), Units::Kilo);
     let is_unit = |text: &&Text| text.words.ends_with("Pa");
     let units: Vec<&Text> = drawing.page.texts.iter().filter(is_unit).collect();
-    assert_eq!(units.len(), 8);
+    assert_eq!(units.len(), 9);
     assert!(units.iter().all(|text| text.words.ends_with("kPa")));
 }
 
@@ -258,10 +414,7 @@ fn any_drawing_can_be_printed_and_read() {
         let units = random.of(&[Units::Whole, Units::Kilo]);
         let drawing = drawing("any", &text, &labels, units);
         assert_eq!(faults(&drawing), Vec::<String>::new(), "{text}");
-        silo_is_to_scale(&drawing);
-        surface_has_its_depth(&drawing);
-        arrows_at_openings(&drawing);
-        hopper_has_leaders(&drawing);
+        is_true(&drawing);
         drawn += 1;
         squat += u32::from(Discharge::of(&drawing.silo).shape != Shape::Slender);
     }

@@ -125,14 +125,14 @@ fn a_blank_factor_is_explained_and_reads_back() {
 #[test]
 fn every_output_names_the_factor_taken() {
     let said: [(Format, &str); 5] = [
-        (Format::Table, ", factor C0 blank, taken as 1.55 (7.4 at 40 degrees)\n"),
+        (Format::Table, " factor C0 blank, taken as 1.55 (7.4 at 40 degrees)\n"),
         (
             Format::Csv,
-            "\nsilo,factor,1.55,for a blank one: 7.4 at 40 degrees,,,,,,,,,\nsilo,factor on the sheet,0.00,blank,,,,,,,,,\n",
+            "\nsilo,factor,1.55,for a blank one: 7.4 at 40 degrees,,,,,,,,,,,\nsilo,factor on the sheet,0.00,blank,,,,,,,,,,,\n",
         ),
         (
             Format::CsvSemicolon,
-            "\nsilo;factor;1,55;for a blank one: 7.4 at 40 degrees;;;;;;;;;\nsilo;factor on the sheet;0,00;blank;;;;;;;;;\n",
+            "\nsilo;factor;1,55;for a blank one: 7.4 at 40 degrees;;;;;;;;;;;\nsilo;factor on the sheet;0,00;blank;;;;;;;;;;;\n",
         ),
         (Format::Json, "\"factor_hundredths\": 0, \"factor_used_hundredths\": 155, "),
         (Format::Json, "Factor C0 is blank and taken as 1.55, equation 7.4 at an internal"),

@@ -1,108 +1,15 @@
 //! No file is lost: what is refused, what is replaced, and the bytes of every file afterwards.
 
 mod common;
+mod folder;
 
 use common::{root, sample};
-use std::collections::BTreeMap;
+use folder::{bash, ended, output, Folder};
 use std::ffi::OsString;
 use std::fs::{self, File, OpenOptions, Permissions};
-use std::os::unix::fs::{symlink, FileTypeExt, MetadataExt, PermissionsExt};
-use std::path::{Path, PathBuf};
+use std::os::unix::fs::{symlink, FileTypeExt, PermissionsExt};
+use std::path::Path;
 use std::process::{Command, Output};
-
-/// A folder of a test's own, in which the program runs.
-struct Folder(PathBuf);
-
-/// Each name with where it leads, as a link, or its bytes.
-type State = BTreeMap<OsString, (Option<PathBuf>, Vec<u8>)>;
-
-impl Folder {
-    fn new(name: &str) -> Folder {
-        let path = Path::new(env!("CARGO_TARGET_TMPDIR")).join("files").join(name);
-        if path.exists() {
-            fs::remove_dir_all(&path).expect("an old folder");
-        }
-        fs::create_dir_all(&path).expect("a folder");
-        Folder(path)
-    }
-
-    /// With a silo's text `w.silo`.
-    fn with_silo(name: &str) -> Folder {
-        let folder = Folder::new(name);
-        folder.put("w.silo", &sample("wheat-tower.silo"));
-        folder
-    }
-
-    fn path(&self, name: &str) -> PathBuf {
-        self.0.join(name)
-    }
-
-    fn put(&self, name: &str, bytes: &[u8]) {
-        fs::write(self.path(name), bytes).expect(name);
-    }
-
-    fn get(&self, name: &str) -> Vec<u8> {
-        fs::read(self.path(name)).expect(name)
-    }
-
-    /// Everything in the folder, hidden files too.
-    fn state(&self) -> State {
-        let entries = self.0.read_dir().expect("the folder").map(|entry| entry.expect("an entry"));
-        let state = entries.map(|entry| {
-            let link = fs::read_link(entry.path()).ok();
-            (entry.file_name(), (link, fs::read(entry.path()).unwrap_or_default()))
-        });
-        state.collect()
-    }
-
-    fn silo(&self, arguments: &[&str]) -> Command {
-        let mut command = Command::new(env!("CARGO_BIN_EXE_silo"));
-        command.current_dir(&self.0).args(arguments);
-        command
-    }
-
-    /// A device with that minor number under major 1. The superuser, who could break the machine's
-    /// own one, gets one in this folder, if the system allows that.
-    fn device(&self, name: &str, minor: u32) -> Option<String> {
-        if fs::metadata(&self.0).expect("the folder").uid() != 0 {
-            return Some(format!("/dev/{name}"));
-        }
-        let script = format!("mknod {name} c 1 {minor} && : >{name}");
-        output(&mut bash(self, &script)).status.success().then(|| name.to_string())
-    }
-
-    /// A run that ends with status 2 and these words, and leaves everything as it was.
-    fn refuses(&self, command: &mut Command, words: &str) {
-        let before = self.state();
-        let (status, said) = ended(command);
-        assert_eq!(status, 2, "{command:?}: {said}");
-        assert!(said.contains(words), "{command:?}: {words}: {said}");
-        assert!(before == self.state(), "{command:?} changed a file");
-    }
-
-    /// A run that ends well and changes this file alone; what it says of it.
-    fn writes(&self, arguments: &[&str], file: &str) -> String {
-        let mut before = self.state();
-        let (status, said) = ended(&mut self.silo(arguments));
-        assert_eq!(status, 0, "{arguments:?}: {said}");
-        let mut after = self.state();
-        before.remove(&OsString::from(file));
-        assert!(after.remove(&OsString::from(file)).is_some_and(|(_, bytes)| !bytes.is_empty()));
-        assert!(before == after, "{arguments:?} changed another file");
-        said
-    }
-}
-
-fn output(command: &mut Command) -> Output {
-    command.output().expect("the program runs")
-}
-
-/// Status and messages of a run that prints nothing.
-fn ended(command: &mut Command) -> (i32, String) {
-    let Output { status, stdout, stderr } = output(command);
-    assert_eq!(String::from_utf8_lossy(&stdout), "", "{command:?}");
-    (status.code().expect("no signal"), String::from_utf8(stderr).expect("UTF-8"))
-}
 
 fn printed(arguments: &[&str]) -> Vec<u8> {
     shown(arguments, 0)
@@ -171,7 +78,7 @@ fn nothing_is_printed_into_the_file_that_is_read() {
 }
 
 /// A command, the ending of what it writes, what that is, in a word, and whether the tool replaces one.
-const WRITTEN: [(&[&str], &str, &str, &str, bool); 17] = [
+const WRITTEN: [(&[&str], &str, &str, &str, bool); 18] = [
     (&["draw", "w.silo"], "svg", "a drawing", "drawing", true),
     (&["draw", "w.silo", "--kpa"], "svg", "a drawing", "drawing", true),
     (&["sheet", "w.silo"], "sheet", "a sheet", "sheet", true),
@@ -195,6 +102,7 @@ const WRITTEN: [(&[&str], &str, &str, &str, bool); 17] = [
     (&["draw", "w.silo", "--depth", "8 m"], "svg", "a drawing of a patch", "drawing", true),
     (&["catalogue"], "txt", "the catalogue", "catalogue", true),
     (&["catalogue", "--csv-semicolon"], "csv", "the catalogue's CSV", "CSV", true),
+    (&["catalogue", "--json"], "json", "the catalogue's JSON", "JSON", true),
 ];
 
 fn with_all_commands(name: &str) -> Folder {
@@ -220,9 +128,12 @@ fn what_was_written_is_said_and_replaced_by_its_kind() {
         assert_eq!(bytes, output(&mut folder.silo(&[command, &["-o", "-"]].concat())).stdout);
         let again = said.replace("written", "replaced");
         if replaced {
-            let line = if word == "sheet" { &b""[..] } else { b"\n" };
-            folder.put(&file, &[&bytes[..], line].concat());
-            assert_eq!(folder.writes(&arguments, &file), again);
+            folder.put(&file, &of_the_last_run(&bytes, word));
+            let copy = match word {
+                "page" => format!("; the old one is {file}~\n"),
+                _ => "\n".to_string(),
+            };
+            assert_eq!(folder.writes(&arguments, &file), again.replace('\n', &copy));
         } else {
             folder.refuses(&mut folder.silo(&arguments), "which may be written by hand");
             let forced = [&arguments[..], &["--force"]].concat();
@@ -235,14 +146,18 @@ fn what_was_written_is_said_and_replaced_by_its_kind() {
     }
 }
 
+/// Another output of the same silo, as far as the tool can tell it: one line more, but not in a sheet, nor in a CSV, which would show it.
+fn of_the_last_run(bytes: &[u8], word: &str) -> Vec<u8> {
+    let line = if ["sheet", "CSV"].contains(&word) { &b""[..] } else { b"\n" };
+    [bytes, line].concat()
+}
+
 const PAGE_HEADING: &[u8; 72] =
     b"        z      phf      pwf      pvf       PW      phe      pwe       pp";
 
-/// What a file may hold, and the words for it. Only the kind that is written is replaced.
-fn contents() -> Vec<(&'static str, Vec<u8>)> {
-    let silo = ["samples/wheat-tower.silo"];
-    let of = |command: &str, more: &[&str]| printed(&[&[command], &silo[..], more].concat());
-    let csv = of("loads", &["--csv"]);
+/// What a file may hold, all of `w.silo`, and the words for it. Only the kind that is written is replaced.
+fn contents(folder: &Folder) -> Vec<(&'static str, Vec<u8>)> {
+    let of = |command: &str, more: &[&str]| folder.prints(&[&[command, "w.silo"], more].concat());
     let patch = |more: &[&str]| of("patch", &[&["--depth", "8 m"], more].concat());
     let other = "something other than ";
     vec![
@@ -250,22 +165,24 @@ fn contents() -> Vec<(&'static str, Vec<u8>)> {
         ("a sheet", of("sheet", &["-o", "-"])),
         ("a sheet", printed(&["sheet", "samples/cement.silo", "-o", "-"])),
         ("a sheet", shown(&["sheet", "samples/blank-friction.silo", "-o", "-"], 1)),
-        ("CSV of loads", [b"\xef\xbb\xbf", &csv[..]].concat()),
-        ("CSV of loads", csv),
-        ("CSV of loads", b"silo;w\npart;p_he (kPa)\n".to_vec()),
+        ("CSV of loads", of("loads", &["--csv"])),
+        ("CSV of loads", of("loads", &["--csv-semicolon", "--kpa"])),
         ("JSON of loads", of("loads", &["--json"])),
         ("the catalogue", printed(&["catalogue"])),
         ("the catalogue's CSV", printed(&["catalogue", "--csv"])),
+        ("the catalogue's JSON", printed(&["catalogue", "--json"])),
         ("a table of loads", b"w.silo\n\n 1 2\n\nsilo 1.0.0, ENV 1991-4:1995\n\n".to_vec()),
         ("a load page", of("page", &[])),
         ("a load page", [&PAGE_HEADING[..], b"\r\nprinted for M. Dupont\r\n"].concat()),
         ("a table of a patch", patch(&[])),
         ("CSV of a patch", patch(&["--csv"])),
+        ("JSON of a patch", patch(&["--json"])),
         ("a drawing of a patch", of("draw", &["--depth", "0", "-o", "-"])),
         ("a silo's text", sample("wheat-tower.silo")),
         ("a silo's text", b"# mine\r\nD_x = 1\r\n Diameter=4 m\r\n".to_vec()),
         (other, b"<svg><text>our mark</text></svg>".to_vec()),
         (other, b"{ \"name\": \"ours\" }".to_vec()),
+        (other, b"{ \"products\": [\"bolts\"] }".to_vec()),
         (other, b"part,count\nbolt,400\n".to_vec()),
         (other, b"silo 1 is full\nring the miller\n".to_vec()),
         (other, b"\x04\0\x01\0 bytes of another program".to_vec()),
@@ -278,13 +195,22 @@ fn contents() -> Vec<(&'static str, Vec<u8>)> {
     ]
 }
 
+/// The silo that a file of `contents` names.
+fn silo_in(found: &str) -> &str {
+    match found {
+        "a drawing" => " of w.silo",
+        _ if found.ends_with(" of loads") || found.ends_with(" of a patch") => " of w.silo",
+        _ => "",
+    }
+}
+
 #[test]
 fn what_is_of_another_kind_stays_unless_forced() {
     let folder = with_all_commands("kinds");
     for (command, ending, kind, _, _) in WRITTEN {
         let file = format!("old.{ending}");
         let arguments = [command, &["-o", &file]].concat();
-        for (found, bytes) in contents() {
+        for (found, bytes) in contents(&folder) {
             folder.put(&file, &bytes);
             if found == kind && kind != "a silo's text" {
                 folder.writes(&arguments, &file);
@@ -295,7 +221,7 @@ fn what_is_of_another_kind_stays_unless_forced() {
                 _ if found == kind => {
                     format!("{file} holds {found}, which may be written by hand; ")
                 }
-                _ => format!("{file} holds {found}, not {kind}; "),
+                _ => format!("{file} holds {found}{}, not {kind}; ", silo_in(found)),
             };
             let words = words + "choose another name, or --force replaces it\n";
             folder.refuses(&mut folder.silo(&arguments), &words);
@@ -323,7 +249,7 @@ fn links_permissions_and_folders() {
     symlink("loop.svg", folder.path("loop.svg")).expect("a link");
     folder.refuses(&mut draw("loop.svg"), "loop.svg: not written: ");
 
-    let drawing = printed(&["draw", "samples/cement.silo", "-o", "-"]);
+    let drawing = folder.prints(&["draw", "w.silo", "--kpa", "-o", "-"]);
     folder.put("sub/real.svg", &drawing);
     fs::set_permissions(folder.path("sub/real.svg"), Permissions::from_mode(0o604)).expect("mode");
     symlink("sub/real.svg", folder.path("link.svg")).expect("a link");
@@ -377,18 +303,10 @@ fn an_ending_that_does_not_fit() {
     }
 }
 
-/// The program in bash, which may set limits first; `$silo` is the program.
-fn bash(folder: &Folder, script: &str) -> Command {
-    let mut command = Command::new("bash");
-    command.current_dir(&folder.0).env("silo", env!("CARGO_BIN_EXE_silo"));
-    command.args(["-c", script]);
-    command
-}
-
 #[test]
 fn a_full_disk_leaves_the_old_file() {
     let folder = Folder::with_silo("full");
-    folder.put("old.svg", &printed(&["draw", "samples/cement.silo", "-o", "-"]));
+    folder.put("old.svg", &folder.prints(&["draw", "w.silo", "--kpa", "-o", "-"]));
     let limited = |rest: &str| {
         bash(&folder, &format!("trap '' XFSZ; ulimit -f 1; exec $silo draw w.silo -o {rest}"))
     };
@@ -427,7 +345,7 @@ fn a_folder_that_may_not_be_written() {
     }
     assert!(tried > 0);
     fs::create_dir(folder.path("locked")).expect("a folder");
-    folder.put("locked/old.svg", &printed(&["draw", "samples/cement.silo", "-o", "-"]));
+    folder.put("locked/old.svg", &folder.prints(&["draw", "w.silo", "--kpa", "-o", "-"]));
     let old = folder.get("locked/old.svg");
     let locked = |mode| fs::set_permissions(folder.path("locked"), Permissions::from_mode(mode));
     locked(0o555).expect("a mode");
@@ -457,13 +375,14 @@ fn a_temporary_file_that_is_left_over() {
     assert_eq!(folder.get(names[0].to_str().expect("UTF-8")), b"part\n");
 }
 
-/// They are written to and read as they are.
-/// CSV without the rows of the description, which name the file.
+/// CSV without the rows of the description, which name the file, and without the check row.
 fn loads(csv: &[u8]) -> String {
     let csv = String::from_utf8(csv.to_vec()).expect("UTF-8");
-    csv.lines().filter(|line| !line.starts_with("silo,")).map(|line| format!("{line}\n")).collect()
+    let of_loads = |line: &&str| !["silo,", "check,"].iter().any(|part| line.starts_with(part));
+    csv.lines().filter(of_loads).map(|line| format!("{line}\n")).collect()
 }
 
+/// They are written to and read as they are.
 #[test]
 fn devices_and_pipes() {
     let folder = Folder::with_silo("pipes");
@@ -478,9 +397,9 @@ fn devices_and_pipes() {
     let loads = loads(&output(&mut folder.silo(&["loads", "w.silo", "--csv"])).stdout).into_bytes();
     for (script, printed) in [
         ("mkfifo out; cat out & $silo draw w.silo -o out; test -p out && wait", &drawing),
-        ("mkfifo in; cat w.silo >in & $silo loads in --csv | grep -v ^silo,", &loads),
-        ("$silo loads <(cat w.silo) --csv | grep -v ^silo,", &loads),
-        ("cat w.silo | $silo loads /dev/stdin --csv | grep -v ^silo,", &loads),
+        ("mkfifo in; cat w.silo >in & $silo loads in --csv | grep -v -e ^silo, -e ^check,", &loads),
+        ("$silo loads <(cat w.silo) --csv | grep -v -e ^silo, -e ^check,", &loads),
+        ("cat w.silo | $silo loads /dev/stdin --csv | grep -v -e ^silo, -e ^check,", &loads),
         // a reader that goes away is no error
         ("mkfifo gone; (exec 3<gone) & $silo draw w.silo -o gone", &nothing),
         ("$silo loads w.silo | true; exit ${PIPESTATUS[0]}", &nothing),
@@ -565,22 +484,27 @@ fn a_refused_silo_has_no_page() {
 fn json_of_what_gives_no_loads() {
     let folder = Folder::with_silo("json");
     folder.put("blank.silo", &sample("blank-friction.silo"));
+    fs::create_dir(folder.path("sub")).expect("a folder");
     folder.put("long.silo", &[b'#'; (1 << 20) + 1]);
-    folder.put("old.json", &printed(&["loads", "samples/cement.silo", "--json"]));
-    let before = folder.state();
+    let json = String::from_utf8(folder.prints(&["loads", "w.silo", "--json"])).expect("UTF-8");
     for (file, status, refusal, message) in [
-        ("none.silo", 2, "null", "none.silo: there is no such file"),
-        (".", 2, "null", ".: a folder, where a file is due"),
-        ("long.silo", 2, "null", "long.silo: over 1 MiB, longer than any silo's text or sheet"),
+        ("none.silo", 2, "null", "there is no such file"),
+        ("sub", 2, "null", "a folder, where a file is due"),
+        ("long.silo", 2, "null", "over 1 MiB, longer than any silo's text or sheet"),
         ("blank.silo", 1, "7", "friction = 0.00: wall friction is missing or 0"),
     ] {
-        for more in [&[][..], &["-o", "old.json"], &["-o", "new.json"]] {
+        folder.put("old.json", json.replace("w.silo", file).as_bytes());
+        let before = folder.state();
+        let stays = format!("silo: old.json stays as it was: JSON of loads of {file}\n");
+        for (more, said) in
+            [(&[][..], ""), (&["-o", "old.json"], &stays), (&["-o", "new.json"], "")]
+        {
             let ended = output(folder.silo(&["loads", "--json", file]).args(more));
             assert_eq!(ended.status.code(), Some(status));
             let object = String::from_utf8(ended.stdout).expect("UTF-8");
             assert!(object.starts_with(&format!("{{\n  \"refusal\": {refusal},\n")), "{object}");
             assert!(object.contains(&format!("\"message\": \"{message}")), "{object}");
-            assert!(ended.stderr.is_empty());
+            assert_eq!(String::from_utf8_lossy(&ended.stderr), said);
             assert!(before == folder.state());
         }
     }

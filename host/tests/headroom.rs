@@ -1,6 +1,7 @@
 //! Grain that lies below the brim: how a text and a sheet say it, and the loads beside those of the same silo filled to the brim.
 
 mod common;
+mod wrapped;
 
 use common::{text_with, Random, FLAT};
 use silo::commands::{self, Format};
@@ -8,6 +9,7 @@ use silo::description::Description;
 use silo::library::{Loads, P_W, ROW};
 use silo::text;
 use silo::units::Units;
+use wrapped::unwrapped;
 
 fn described(changes: &[(&str, &str)]) -> Description {
     let text = text_with(changes);
@@ -155,17 +157,17 @@ fn every_output_says_it() {
             Format::Table,
             &[
                 "in strakes of 5 x 2000 mm, headroom g 1234 mm, hopper H 1500 mm",
-                "\nLoads on the wall at depth z below the brim; the grain begins at 1234 mm\n",
+                " Loads on the wall at depth z below the brim; the grain begins at 1234 mm ",
             ],
         ),
-        (Format::Csv, &["\nsilo,headroom,1234,mm,"]),
+        (Format::Csv, &[" silo,headroom,1234,mm,"]),
         (
             Format::Json,
             &["\"strakes_mm\": [2000, 2000, 2000, 2000, 2000], \"headroom_mm\": 1234, "],
         ),
     ];
     for (format, words) in said {
-        let page = page(&headroom, format);
+        let page = unwrapped(&page(&headroom, format));
         assert!(words.iter().all(|words| page.contains(words)), "{page}");
     }
     assert!(drawing(&headroom).contains(">g 1\u{2009}234\u{a0}mm</text>"));

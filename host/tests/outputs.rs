@@ -2,22 +2,24 @@
 //! in kPa and in both kinds of separated values.
 
 mod common;
+mod wrapped;
 
 use common::{stored, text_with, FLAT, HEAVIEST};
 use silo::commands::{self, Format};
 use silo::units::Units;
+use wrapped::unwrapped;
 
 type Changes = &'static [(&'static str, &'static str)];
 
 fn output(changes: Changes, format: Format, units: Units) -> String {
     let outcome = commands::loads("tower.silo", text_with(changes).as_bytes(), format, units);
-    assert_eq!((outcome.status, outcome.messages.as_str()), (0, ""), "{changes:?}");
+    assert!(outcome.status == 0 && common::only_doubts(&outcome.messages), "{changes:?}");
     String::from_utf8(outcome.output).expect("UTF-8")
 }
 
 fn drawing(changes: Changes) -> String {
     let outcome = commands::draw("tower.silo", text_with(changes).as_bytes(), Units::Whole);
-    assert_eq!((outcome.status, outcome.messages.as_str()), (0, ""), "{changes:?}");
+    assert!(outcome.status == 0 && common::only_doubts(&outcome.messages), "{changes:?}");
     String::from_utf8(outcome.output).expect("UTF-8")
 }
 
@@ -72,7 +74,10 @@ const PRODUCTS: [(Changes, &str); 9] = [
 #[test]
 fn a_product_is_shown_with_its_origin() {
     for (changes, shown) in PRODUCTS {
-        assert!(output(changes, Format::Table, Units::Whole).contains(shown), "{shown}");
+        assert!(
+            unwrapped(&output(changes, Format::Table, Units::Whole)).contains(shown),
+            "{shown}"
+        );
         let origin = shown.split(':').next().filter(|_| shown.contains(':'));
         let Some(origin) = origin else { continue };
         for page in [
@@ -244,6 +249,9 @@ fn cells(line: &str, separator: char) -> Vec<String> {
     cells
 }
 
+/// The cell of a strake's height.
+const HEIGHT: usize = 13;
+
 /// Both kinds of separated values say the same, cell by cell, and in kPa the same digits.
 #[test]
 fn separated_values_agree() {
@@ -258,14 +266,17 @@ fn separated_values_agree() {
         .zip(kilo.trim_start_matches(mark).lines())
     {
         let [whole, semicolon, kilo] = [cells(whole, ','), cells(semicolon, ';'), cells(kilo, ';')];
-        assert_eq!([whole.len(), semicolon.len(), kilo.len()], [13; 3]);
+        assert_eq!([whole.len(), semicolon.len(), kilo.len()], [15; 3]);
+        if whole[0] == "check" {
+            continue;
+        }
         let loads = ["depth", "hopper", "strake"].contains(&&*whole[0]);
         for (i, cell) in whole.iter().enumerate() {
             match loads {
                 true => assert_eq!(*cell, semicolon[i]),
                 false => assert_eq!(cell.replace('.', ","), semicolon[i].replace('.', ",")),
             }
-            if loads && i > 2 && !cell.is_empty() {
+            if loads && ![0, 1, 2, HEIGHT].contains(&i) && !cell.is_empty() {
                 let digits = kilo[i].split_once(',').expect("a decimal comma");
                 let number: u32 = format!("{}{}", digits.0, digits.1).parse().expect("digits");
                 assert_eq!((number.to_string(), digits.1.len()), (cell.clone(), 3));

@@ -1,11 +1,13 @@
-//! The patch round a shell: its numbers beside the load list and the cosine, what its outputs say, and where it is refused.
+//! The patch round a shell: its numbers beside the load list and the cosine, what its outputs say, and where it is refused. On a concrete or
+//! stiffened circle it acts on two opposite squares.
 
 mod common;
 mod silos;
 
-use common::{stored, text_with, Random, FLAT};
+use common::{only_doubts, stored, text_with, Random, FLAT};
 use silo::commands::{self, Format, Outcome};
 use silo::description::{Description, Section};
+use silo::files::Kind;
 use silo::library::{self, Loads, Refusal, ShellPatch, SHELL_REPLY};
 use silo::text;
 use silo::units::Units;
@@ -95,7 +97,7 @@ fn asked(changes: Changes, depth: u32, step: usize, format: Format, units: Units
 
 fn page(changes: Changes, depth: u32, step: usize, format: Format, units: Units) -> String {
     let outcome = asked(changes, depth, step, format, units);
-    assert_eq!((outcome.status, outcome.messages.as_str()), (0, ""), "{changes:?}");
+    assert!(outcome.status == 0 && only_doubts(&outcome.messages), "{changes:?}");
     String::from_utf8(outcome.output).expect("UTF-8")
 }
 
@@ -151,7 +153,7 @@ const WORDS: [Words; 8] = [
             "\np_p 4928 Pa at 0 degrees, on discharge (5.24)\n",
             "\ns 1000 mm, its height, from 4500 to 5500 mm (5.10)\n",
             "\nF_p 38705 N, its force, towards 0 degrees (5.12)\n",
-            "two\n  opposite squares with sides of s (5.2.1.1, 4)",
+            "text it acts on two opposite squares with sides of s (5.2.1.1, 4)",
             "The patch is added to p_he.",
         ],
         &["The band ends", "Squat", "grain's surface", "P_w", "Hopper: "],
@@ -271,4 +273,138 @@ fn a_patch_is_refused_as_its_loads_are() {
         refused += u32::from(loads.is_err());
     }
     assert!((100..900).contains(&refused), "{refused}");
+}
+
+/// The numbers of a field in JSON, each up to the next comma, bracket or line.
+fn fields<'a>(json: &'a str, name: &str) -> Vec<&'a str> {
+    let name = format!("\"{name}\": ");
+    let after = json.split(&name).skip(1);
+    after.filter_map(|rest| rest.split([',', '}', '\n']).next()).collect()
+}
+
+/// The numbers of the table, and as many degrees.
+#[test]
+fn json_has_the_numbers_of_the_patch() {
+    let patch = ShellPatch::of(&described(&text_with(&[])).to_bytes(), 5000).expect("a circle");
+    for step in [1, 10] {
+        let json = page(&[], 5000, step, Format::Json, Units::Whole);
+        let number = |written: &str| written.parse::<i32>().expect("a number");
+        let listed: Vec<i32> = fields(&json, "p_ps").into_iter().skip(1).map(number).collect();
+        let due: Vec<i32> = patch.pressures().iter().copied().step_by(step).collect();
+        assert_eq!(listed, due);
+        let degrees: Vec<i32> = fields(&json, "degree").into_iter().skip(1).map(number).collect();
+        assert_eq!(degrees, (0..360).step_by(step).collect::<Vec<i32>>());
+        let last = |name| fields(&json, name).last().copied().map(number);
+        assert_eq!(last("F_p"), Some(patch.force() as i32));
+        assert_eq!((last("p_p"), last("depth")), (Some(patch.pressure() as i32), Some(5000)));
+        assert_eq!([last("s"), last("from"), last("to")], [Some(1000), Some(4500), Some(5500)]);
+    }
+    let small = page(&[("diameter", "4999 mm"), HEADROOM], 5000, 10, Format::Json, Units::Kilo);
+    assert_eq!(fields(&small, "s")[1..], ["999.8"]);
+    assert_eq!(fields(&small, "depth_below_grain")[1..], ["4300"]);
+    stored("host/tests/golden/patch.json", small.as_bytes());
+}
+
+/// A refusal of the library, or a text that cannot be read, is an object as it is for loads.
+#[test]
+fn a_refused_patch_in_json() {
+    for (number, title, changes, depth) in REFUSED {
+        let outcome = asked(changes, depth, 10, Format::Json, Units::Whole);
+        assert_eq!((outcome.status, outcome.messages.as_str()), (1, ""), "{title}");
+        let json = String::from_utf8(outcome.output).expect("UTF-8");
+        assert_eq!(fields(&json, "refusal")[0], number.to_string(), "{json}");
+    }
+    let text = text_with(&[("diameter", "5 yards")]);
+    let json = |outcome: Outcome| (outcome.status, outcome.messages, outcome.output);
+    let patch = commands::patch("b.silo", text.as_bytes(), (0, 10), Format::Json, Units::Whole);
+    let loads = commands::loads("b.silo", text.as_bytes(), Format::Json, Units::Whole);
+    assert_eq!(json(patch), json(loads));
+}
+
+const CONCRETE: Changes = &[("wall", "concrete")];
+const STIFFENED: Changes = &[("wall", "corrugated"), ("stiffeners", "yes"), HEADROOM];
+
+/// As many numbers as a patch on squares has, and what it says, at the wall's middle, at its ends and above the grain.
+#[test]
+fn a_concrete_or_stiffened_circle_has_squares() {
+    let mut said = String::new();
+    for (changes, depth, units) in [
+        (CONCRETE, 5000, Units::Whole),
+        (CONCRETE, 0, Units::Whole),
+        (STIFFENED, 10_000, Units::Kilo),
+        (STIFFENED, 700, Units::Kilo),
+    ] {
+        let p_p = p_p(&described(&text_with(changes)), depth).expect("an accepted silo");
+        for format in [Format::Table, Format::Csv, Format::CsvSemicolon, Format::Json] {
+            let page = page(changes, depth, 1, format, units);
+            said += &format!("== {changes:?}, --depth {depth} mm, {format:?}\n{page}\n");
+            let number = units.show(p_p);
+            let shown = match format {
+                Format::Table => format!("p_p {number} "),
+                Format::Csv => format!("square,2,{number},"),
+                Format::CsvSemicolon => format!("square;2;{};", number.replace('.', ",")),
+                Format::Json => format!("\"p_p\": {number},"),
+            };
+            assert!(page.contains(&shown), "{shown}: {page}");
+            let round =
+                ["at 0 degrees", "degree,", "degree;", "force,", "force;", "\"degrees\": ["];
+            assert!(round.iter().all(|words| !page.contains(words)), "{page}");
+        }
+    }
+    stored("host/tests/golden/squares.txt", said.as_bytes());
+}
+
+/// Of a wall that is not named.
+const UNNAMED: &str = "a band s = 1000 mm high at any depth, p_p times the cosine of the angle round the shell (5.10, 5.11); on a concrete or \
+     stiffened wall on two opposite squares (5.2.1.1, 4).";
+
+/// Silos, and on what the patch acts by the note of the loads.
+const PLACES: [(Changes, &str); 7] = [
+    (&[], UNNAMED),
+    (&[("stiffeners", "no")], UNNAMED),
+    (&[("wall", "steel")], "a band s = 1000 mm high at any depth, p_p times the cosine of the angle round the shell (5.10, 5.11)."),
+    (CONCRETE, "two opposite squares of s = 1000 mm at any place of the wall, which is concrete (5.2.1.1, 4; 5.10)."),
+    (
+        &[("wall", "steel"), ("stiffeners", "yes")],
+        "two opposite squares of s = 1000 mm at any place of the wall, which has stiffeners (5.2.1.1, 4; 5.10).",
+    ),
+    (&RECTANGLE, "two opposite squares of s = 1000 mm at any place of the wall (5.10)."),
+    (
+        &[RECTANGLE[0], RECTANGLE[1], ("stiffeners", "yes")],
+        "two opposite squares of s = 1000 mm at any place of the wall (5.10).",
+    ),
+];
+
+#[test]
+fn the_loads_say_on_what_the_patch_acts() {
+    for (changes, place) in PLACES {
+        let text = text_with(changes);
+        for format in [Format::Table, Format::Csv, Format::Json] {
+            let outcome = commands::loads("bin.silo", text.as_bytes(), format, Units::Whole);
+            let page = String::from_utf8(outcome.output).expect("UTF-8");
+            let page = page.split_whitespace().collect::<Vec<&str>>().join(" ");
+            assert!(
+                page.contains(&format!("as p_he + p_p of the strakes has it: it acts on {place}")),
+                "{page}"
+            );
+        }
+    }
+}
+
+/// Each output is known by its bytes, so that another patch may replace it and nothing else.
+#[test]
+fn outputs_of_a_patch_are_known() {
+    for changes in [&[][..], CONCRETE] {
+        let of = |format| Kind::of(page(changes, 5000, 10, format, Units::Whole).as_bytes());
+        assert_eq!(of(Format::Table), Some(Kind::Patch));
+        assert_eq!(of(Format::Csv), Some(Kind::PatchCsv));
+        assert_eq!(of(Format::CsvSemicolon), Some(Kind::PatchCsv));
+        assert_eq!(of(Format::Json), Some(Kind::PatchJson));
+        let text = text_with(changes);
+        let drawn = commands::draw_patch("bin.silo", text.as_bytes(), 5000, Units::Whole);
+        assert_eq!(Kind::of(&drawn.output), Some(Kind::PatchDrawing));
+        let loads = |format| commands::loads("bin.silo", text.as_bytes(), format, Units::Whole);
+        assert_eq!(Kind::of(&loads(Format::Json).output), Some(Kind::Json));
+        assert_eq!(Kind::of(&loads(Format::Csv).output), Some(Kind::Csv));
+    }
 }

@@ -1,12 +1,13 @@
-//! The text form: what it says exactly, texts that cannot be read against `golden/bad-text.txt`, and tens of thousands of
-//! damaged texts.
+//! The text form: what it says exactly, texts that cannot be read against `golden/bad-text.txt`, codes and fixes of their messages
+//! against `golden/fixes.txt`, and tens of thousands of damaged texts.
 
 mod common;
 
 use common::{sample, stored, text_with, Random};
 use silo::commands::{self, Format};
 use silo::description::{Description, Product, Section};
-use silo::text::{self, Error};
+use silo::message::Message;
+use silo::text;
 use silo::units::Units;
 
 /// Lines that differ from a readable silo.
@@ -32,7 +33,7 @@ const BAD: &[&[(&str, &str)]] = &[
     &[("diameter", "five metres")],
     &[("diameter", "mm")],
     &[("diameter", "6.2 mm")],
-    &[("diameter", "5 ft")],
+    &[("diameter", "5 yd")],
     &[("diameter", "5 m 3 cm")],
     &[("diameter", "4294968 m")],
     &[("diameter", "99999999999999999999 mm")],
@@ -235,10 +236,130 @@ const BAD: &[&[(&str, &str)]] = &[
     &[("depths", "every 30000 m")],
     &[("project", "a name of far more than sixty characters, which no title block has room for")],
     &[("depths", "all")],
+    &[("weight", "78 kg/hl")],
+    &[("weight", "780 kg/m³  # a measured mean"), ("product", "wheat"), ("ratio", "-")],
+    &[("strakes", "5 x 78 13/64 in")],
+    &[("factor", "-")],
+    &[("factor", "1.305")],
+    &[("ratio", "0.455")],
+    &[("friction", "-"), ("friction low", "0.27"), ("friction high", "0.35")],
+    &[("mu min", "0.27")],
+    &[("Lower friction", "0.27")],
+    &[("Ks high", "0.6")],
+    &[("strakes", "2000 x 8 mm")],
+    &[("strakes", "2 m x 8")],
+    &[("strakes", "8")],
+    &[("strakes", "8 of 1200 mm")],
+    &[("strakes", "2 m 500 mm")],
+    &[("strakes", "8 x 48.5 in")],
+    &[("strakes", "1.2, 1.2005, 3 m")],
+    &[("strakes", "2000, 900")],
+    &[("diameter", "47 1/4 in")],
+    &[("diameter", "16' 5\"")],
+    &[("diameter", "16 ft 5 in")],
+    &[("diameter", "200000000 ft")],
+    &[("diameter", "5'000 mm")],
+    &[("diameter", "5’000 mm")],
+    &[("diameter", "Ø 5000 mm")],
+    &[("strakes", "5 x 2'000 mm")],
+    &[("depths", "0 .. 10 m")],
+    &[("depths", "0-10 m")],
+    &[("depths", "0 to 10 m")],
+    &[("depths", "every metre")],
+    &[("hopper height", "-"), ("hopper angle", "30 deg")],
+    &[("hopper run", "-"), ("hopper angle", "15 deg")],
+    &[("dia\u{200b}meter", "5 m")],
+    &[("diameter", "50\u{200b}00 mm")],
+    &[("headroom", "300\u{ad} mm  # soft hyphen")],
+    &[("filling eccentricity", "centre")],
+    &[("outlet eccentricity", "center")],
+    &[("hopper", "none"), ("hopper height", "-"), ("hopper run", "-")],
+    &[("diameter", "-"), ("radius", "2.5 m")],
+    &[("radius", "half")],
+    &[("product", "wheat"), ("weight", "-"), ("wall", "stainless")],
+    &[("strakes", "24 x 65 m"), ("depths", "every 1 mm")],
+    &[("diameter", "ca. 5 m")],
+    &[("diameter", "5000 mm (inside)")],
+    &[("diameter", "5000 mm // inside")],
+    &[("diameter", "5000 +- 5 mm")],
+    &[("diameter", "5m50")],
+    &[("diameter", "5 m 50 cm")],
+    &[("diameter", "4.9-5.0 m")],
+    &[("strakes", "2000 mm each")],
+    &[("strakes", "2000+2000+1500 mm")],
+    &[("strakes", "6 x 2000 and 2 x 1500 mm")],
+    &[("strakes", "6 x 2000, 2 x 1500 mm, bottom first")],
+    &[("strakes", "8 x 6' 6\"")],
+    &[("strakes", "8 x 78 3/4 in, 2 x 1 m")],
+    &[("product", "wheat"), ("weight", "-"), ("wall", "mild steel")],
+    &[("product", "wheat"), ("weight", "-"), ("wall", "reinforced concrete")],
+    &[("weight", "780")],
+    &[("weight", "780 kg / m3")],
+    &[("weight", "100000")],
+    &[("weight", "49 lb/ft3")],
+    &[("friction", "0.3 to 0.4")],
+    &[("friction", "0.3-0.4")],
+    &[("friction", "tan 24")],
+    &[("friction", "0.30 (steel)")],
+    &[("wall friction angle", "24 deg"), ("friction", "-")],
+    &[("internal friction", "30 deg")],
+    &[("filling eccentricity", "+/- 200 mm")],
+    &[("thickness", "3 mm")],
+    &[("strake height", "2 m"), ("strakes", "-")],
+    &[("depths", "strake joints")],
+    &[("headroom", "full")],
+    &[("stiffeners", "y")],
+    &[("diameter", "5OOO mm")],
+    &[("strakes", "5 x 2OO0 mm")],
+    &[("diameter", ".999999999 999999999/999999999 ft 9.99999999 999999999/999999999 in")],
+    &[("diameter", "1.00000001 1/999999999 ft 1.00000001 1/999999999 in")],
+    &[("diameter", "999999999 999999999/128 ft 999999999 999999999/127 in")],
+    &[("diameter", "198 13/64 in")],
+    &[("weight", "780   /   kg")],
+    &[("strakes", "1000, 2000, 3000 mm top to bottom")],
+    &[("strakes", "1000, 2000, 3000 mm (top first)")],
+    &[("strakes", "1000, 2000, 3000 mm from bottom to top")],
+    &[("strakes", "1000, 2000, 3000 mm, from the bottom")],
+    &[("strakes", "1000, 2000, 3000 mm bottom up")],
+    &[("strakes", "1000, 2000, 3000 mm (thickest at the bottom)")],
+    &[("strakes", "8 x 1200 mm without the bottom one")],
+    &[("depths", "0, 500, 1000 mm above the floor")],
+    &[("depths", "0/500/1000 mm")],
+    &[("diameter", "2.5 m radius")],
+    &[("diameter", "R = 2.5 m (inside)")],
+    &[("diameter", "200 mm radius")],
+    &[("diameter", "half of 5 m")],
+    &[("diameter", "about 5 m, inner")],
+    &[("diameter", "ca. 5 mm")],
+    &[("friction", "max 0.45")],
+    &[("friction", "min 0.30")],
+    &[("friction", "0.45 (upper)")],
+    &[("friction", "0.45 high")],
+    &[("friction", "0.45 internal")],
+    &[("friction", "0.45 (internal)")],
+    &[("friction", "0.45 wheat on concrete")],
+    &[("ratio", "low 0.45")],
+    &[("weight", "mean 7800 N/m3")],
+    &[("weight", "7.5 kN/m3 measured")],
+    &[("weight", "7.5 kN/m3 measured"), ("product", "wheat"), ("ratio", "-")],
+    &[("weight", "780 kg / m3 (measured)")],
+    &[("weight", "780 kg/m3 wet")],
+    &[("weight", "7.5 kN/m3 (loose)")],
+    &[("factor", "1.2 (filling)")],
+    &[("headroom", "15.4 m of grain")],
+    &[("headroom", "approx. 300 mm")],
+    &[("diameter", "900 m 50")],
+    &[("diameter", "9OO m")],
+    &[("product", "wheat"), ("weight", "-"), ("wall", "epoxy steel")],
+    &[("product", "wheat"), ("weight", "-"), ("wall", "teflon lined steel")],
+    &[("product", "wheat"), ("weight", "-"), ("wall", "plain carbon steel wall")],
+    &[("product", "wheat"), ("weight", "-"), ("wall", "rubber concrete")],
+    &[("hopper height", "-"), ("hopper angle", "70 deg")],
+    &[("hopper run", "-"), ("hopper angle", "69.999 deg")],
 ];
 
 /// Texts that no line of `BAD` makes.
-const BROKEN: [&str; 15] = [
+const BROKEN: [&str; 17] = [
     "diameter -> 5000 mm\nstrakes := 5 x 2 m\nwidth = 5 m\nclient = x\n",
     "depths = 0, 100, 200, 300, 400, 500, 600, 700, 800, 900, 1000, 1100, 1200, 1300, 1400, 1500, 16OO, 1700 mm\n",
     "diametr = 5 m\nstrake = 5 x 2 m\nwieght = 9 kN/m3\n",
@@ -254,6 +375,8 @@ const BROKEN: [&str; 15] = [
     "diameter = 5 m # a comment\ndiameter = 6 m\n",
     "strakes = 24 x 65 m\ndepths = every 1 mm\n",
     "depths = 0,500 mm\r\nstrakes = 2,5 m\r\n",
+    "// a comment\n; another\nheadroom is 300 mm\n\u{200b}\n",
+    "diameter ; 5000 mm\nheadroom;300 mm\nratio .55\nstrakes | 8 x 2 m\n",
 ];
 
 fn unreadable(page: &mut String, text: &str, shown: &str) {
@@ -277,6 +400,69 @@ fn bad_texts_name_the_line_and_the_mend() {
         unreadable(&mut page, text, &format!("{text:?}"));
     }
     stored("host/tests/golden/bad-text.txt", page.as_bytes());
+}
+
+/// The text with another line in place of one, or behind the last.
+fn with_line(text: &str, line: Option<usize>, fix: &str) -> String {
+    let mut lines: Vec<&str> = text.lines().collect();
+    match line {
+        Some(line) => lines[line - 1] = fix,
+        None => lines.push(fix),
+    }
+    lines.join("\n")
+}
+
+/// Messages that a fixed line may still have: of another line that says the same, and of an angle that no whole mm gives.
+const OTHERS: [&str; 4] = ["one-of-two", "too-many-lines", "twice", "not-exact"];
+
+/// Each fix of a message is a whole line, which keeps the comment and with which the message is gone; no other is left on the line.
+#[test]
+fn fixes_mend_what_the_message_is_about() {
+    let bad = BAD.iter().map(|changes| text_with(changes));
+    let broken = BROKEN.iter().map(|text| text.replace("\r\n", "\n").replace('\r', "\n"));
+    let mut page = String::new();
+    for text in bad.chain(broken) {
+        let lines: Vec<String> = text.lines().map(|line| format!("{line}   # kept")).collect();
+        let text = lines.join("\n");
+        for message in text::read(&text).expect_err(&text) {
+            let at = message.line.map(|line| lines[line - 1].as_str()).unwrap_or_default();
+            let name = message.name.map(|name| name.word()).unwrap_or_default();
+            page += format!("{}: {name}: {at}\n", message.slip.code())
+                .replace("   # kept", "")
+                .as_str();
+            for fix in &message.fixes {
+                page += &format!("    {}\n", fix.replace("   # kept", ""));
+                let mended = with_line(&text, message.line, fix);
+                let left = text::read(&mended).err().unwrap_or_default();
+                let same = |other: &&Message| other.words() == message.words();
+                assert_eq!(left.iter().find(same), None, "{fix}");
+                let here = |other: &&Message| message.line.is_some() && other.line == message.line;
+                let mut here = left.iter().filter(here);
+                let other = here.find(|other| !OTHERS.contains(&other.slip.code()));
+                assert_eq!(other, None, "{fix}");
+                assert!(message.line.is_none() || fix.ends_with("   # kept"), "{fix}");
+            }
+        }
+    }
+    stored("host/tests/golden/fixes.txt", page.as_bytes());
+}
+
+/// A long text is answered at once, whatever it says: many lines at fault, and long lines of many words.
+#[test]
+fn long_texts_are_answered_at_once() {
+    let lines = ["a=\n", "=\n", "a\n", "diamtr = 5 m\n", "diameter = 5 m\n", "\u{200b}\n"];
+    let lines = lines.iter().map(|line| line.repeat((1 << 20) / line.len()));
+    let words = ["a ", "diameter: ", ":", "diameter = 1 / ", "strakes = 1,", "depths = 0 - ", "m"];
+    let words = words.iter().map(|word| word.repeat(200_000 / word.len()));
+    let [before, behind] = [" ".repeat(20_000), " ".repeat(20_000)];
+    let spaced = format!("diameter = 5{before}/{behind}m");
+    for text in lines.chain(words).chain([spaced]) {
+        let start = std::time::Instant::now();
+        let outcome = commands::check("long.silo", text.as_bytes(), Format::Json);
+        let shown: String = text.chars().take(20).collect();
+        assert_eq!(outcome.status, 2, "{shown}");
+        assert!(start.elapsed().as_secs() < 5, "{shown}: {:?}", start.elapsed());
+    }
 }
 
 /// A stray control character, and a text in UTF-16 without its mark, are texts and no sheets.
@@ -355,6 +541,13 @@ fn lengths_are_exact() {
         ("000500 cm", 5000),
         ("4294967.295 m", u32::MAX),
         ("4294967295 mm", u32::MAX),
+        ("5 ft", 1524),
+        ("12' 6\"", 3810),
+        ("16 ft 8 in", 5080),
+        ("62.5 ft", 19050),
+        ("125.0 inches", 3175),
+        ("5 metres", 5000),
+        ("500 centimètres", 5000),
     ];
     for (written, expected) in lengths {
         assert_eq!(
@@ -383,6 +576,9 @@ fn lists_are_exact() {
         ("2x1.2m, 900 mm", vec![1200, 1200, 900]),
         ("1200; 2 × 90, 3 * 80 cm", vec![12000, 900, 900, 800, 800, 800]),
         ("0 x 7 mm, 0", vec![0]),
+        ("2 x 50 in, 1 m", vec![1270, 1270, 1000]),
+        ("2 x 3 m", vec![3000, 3000]),
+        ("3 x 2 m", vec![2000, 2000, 2000]),
     ];
     for (written, expected) in strakes {
         assert_eq!(described(&[("strakes", written)]).strakes, expected, "{written}");
@@ -398,6 +594,8 @@ fn lists_are_exact() {
         ("Every 5 m", vec![0, 5000, 10000]),
         ("Strake edges", vec![0, 2000, 4000, 6000, 8000, 10000]),
         ("at strake edges", vec![0, 2000, 4000, 6000, 8000, 10000]),
+        ("every strake", vec![0, 2000, 4000, 6000, 8000, 10000]),
+        ("every 12' 6\"", vec![0, 3810, 7620, 10000]),
     ];
     for (written, expected) in depths {
         assert_eq!(described(&[("depths", written)]).depths, expected, "{written}");
@@ -471,10 +669,10 @@ fn damaged(random: &mut Random, text: &str) -> String {
     letters.into_iter().collect()
 }
 
-fn names_a_line(error: &Error, lines: usize) -> bool {
-    match error.line {
+fn names_a_line(message: &Message, lines: usize) -> bool {
+    match message.line {
         Some(line) => (1..=lines).contains(&line),
-        None => error.message.starts_with("no line for "),
+        None => message.words().starts_with("no line for "),
     }
 }
 
@@ -503,12 +701,12 @@ fn damaged_texts_give_errors_with_lines_and_never_a_panic() {
                 assert_eq!(outcome.status, u8::from(refused), "{text}");
                 accepted += u32::from(!refused);
             }
-            Err(errors) => {
+            Err(messages) => {
                 unread += 1;
-                assert!(!errors.is_empty(), "{text}");
+                assert!(!messages.is_empty(), "{text}");
                 let lines = text.split(['\n', '\r']).count();
-                let named = errors.iter().all(|error| names_a_line(error, lines));
-                assert!(named, "{errors:?}\n{text}");
+                let named = messages.iter().all(|message| names_a_line(message, lines));
+                assert!(named, "{messages:?}\n{text}");
             }
         }
     }

@@ -9,6 +9,9 @@ use std::time::{Duration, Instant};
 /// A program that has not ended by then waits for more input.
 const PATIENCE: Duration = Duration::from_secs(20);
 
+/// What the tool says of an accepted sheet that is improbable begins so, line by line.
+const DOUBT: &str = "standard input: Doubt: ";
+
 pub struct Printed {
     status: ExitStatus,
     output: Vec<u8>,
@@ -62,10 +65,13 @@ impl Printer {
         })?;
         let refused = self.is_tool && due.starts_with("REFUSED");
         expect(status.code() == Some(refused.into()), sheet, || format!("{name}: {status}"))?;
-        let silent = messages.is_empty();
-        expect(silent != refused, sheet, || {
-            format!("{name} says {:?}", String::from_utf8_lossy(&messages))
-        })
+        let messages = String::from_utf8_lossy(&messages);
+        let due = match (refused, self.is_tool) {
+            (true, _) => !messages.is_empty(),
+            (false, true) => messages.lines().all(|line| line.starts_with(DOUBT)),
+            (false, false) => messages.is_empty(),
+        };
+        expect(due, sheet, || format!("{name} says {messages:?}"))
     }
 
     /// It prints nothing, and says why.

@@ -1,8 +1,9 @@
 //! Pressures over depth.
 
-use super::layout::{round_step, Layout, CHART, WIDE};
+use super::layout::{round_step, Layout, CHART};
 use super::shown::{grouped, round_pressure};
 use super::svg::Svg;
+use crate::basis::{Made, WALL};
 use crate::description::Description;
 use crate::library::Loads;
 use crate::report::Report;
@@ -24,6 +25,13 @@ const fn curve(
     Curve { place, name, words, class }
 }
 
+impl Curve {
+    /// What it is made with.
+    pub fn made(self) -> Made {
+        WALL[self.place - 1]
+    }
+}
+
 pub const CURVES: [Curve; 5] = [
     curve(1, "p_hf", "horizontal, filling", "horizontal filling"),
     curve(5, "p_he", "horizontal, discharge, without p_p", "horizontal"),
@@ -32,20 +40,22 @@ pub const CURVES: [Curve; 5] = [
     curve(7, "p_p", "patch load, discharge", "patch"),
 ];
 
-/// Strakes' numbers stand at least so far from each other.
+/// Numbers below each other stand at least so far apart.
 const APART: f64 = 11.0;
+/// From this pressure on, Pa, the numbers at its axis are wide.
+const WIDE_AXIS: u32 = 100_000;
 /// The room that words need.
 const WORDS: f64 = 16.0;
 
 /// Of all pressures in the chart, Pa; at least 1.
-pub fn greatest(curves: &Loads) -> u32 {
+fn greatest(curves: &Loads) -> u32 {
     let pressures = curves.rows().flat_map(|row| CURVES.each_ref().map(|curve| row[curve.place]));
     pressures.max().unwrap_or(1).max(1)
 }
 
 pub fn draw(svg: &mut Svg, report: &Report, layout: &Layout, curves: &Loads) {
     let greatest = greatest(curves);
-    let parts = if greatest < WIDE { 5.0 } else { 4.0 };
+    let parts = if greatest < WIDE_AXIS { 4.0 } else { 3.0 };
     let greatest = f64::from(greatest);
     let step = round_step(greatest, parts);
     let scale = (CHART.1 - CHART.0) / (greatest / step).ceil() / step;
@@ -86,14 +96,17 @@ fn pressure_axis(svg: &mut Svg, report: &Report, layout: &Layout, (step, scale):
     svg.rectangle("frame", (CHART.0, brim), (CHART.1, foot));
 }
 
+/// Every step, and the wall's foot, whose number takes the place of one that is too near.
 fn depth_axis(svg: &mut Svg, layout: &Layout) {
     let step = round_step(layout.wall, 10.0);
-    let mut depth = 0.0;
-    while depth <= layout.wall {
+    let foot = layout.chart_y(layout.wall);
+    let steps = (0..).map(|i| step * f64::from(i)).take_while(|depth| *depth < layout.wall);
+    for depth in steps.chain([layout.wall]) {
         let y = layout.chart_y(depth);
         svg.line("frame", (CHART.1, y), (CHART.1 + 4.0, y));
-        svg.text("start", (CHART.1 + 7.0, y + 3.5), &grouped(depth as u64));
-        depth += step;
+        if depth == layout.wall || foot - y >= APART {
+            svg.text("start", (CHART.1 + 7.0, y + 3.5), &grouped(depth as u64));
+        }
     }
     let middle = layout.chart_y(layout.wall / 2.0);
     svg.upright("middle head", (CHART.1 + 53.0, middle), "depth z below the brim, mm");

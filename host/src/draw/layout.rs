@@ -12,19 +12,19 @@ pub const TOP: f64 = 38.0;
 pub const BOTTOM: f64 = 755.0;
 /// The silo stands between these: beside its tables, or above them where that makes it so many
 /// times as large.
-const SILO: Point = (134.0, 350.0);
-const WIDE_SILO: Point = (134.0, 740.0);
+const SILO: Point = (134.0, 312.0);
+const WIDE_SILO: Point = (134.0, 780.0);
 const LARGER: f64 = 1.5;
 /// Lines from the silo to the table are level as far as this.
-pub const GUTTER: f64 = 368.0;
-pub const TABLE: Point = (382.0, 758.0);
-/// The columns of the strakes' table beside the silo: strake, edge and five pressures; each is
-/// flush right.
-const COLUMNS: [f64; 7] = [421.0, 470.0, 527.0, 584.0, 641.0, 698.0, 755.0];
-/// From the arrow below a flat floor to the first row of a table below it, for the table's head.
-const TABLE_HEAD: f64 = 60.0;
+pub const GUTTER: f64 = 335.0;
+pub const TABLE: Point = (348.0, 811.0);
+/// The columns of the strakes' table, from its left end: strake, height, edge, five pressures and a
+/// sum; each is flush right.
+const COLUMNS: [f64; 9] = [40.0, 86.0, 134.0, 187.0, 240.0, 293.0, 346.0, 399.0, 461.0];
+/// From the arrow or the dimensions below a silo to the first row of a table below it, for the table's head.
+const TABLE_HEAD: f64 = 89.0;
 /// The chart's pressures go from left to right.
-pub const CHART: Point = (778.0, 1019.0);
+pub const CHART: Point = (833.0, 1019.0);
 /// A wall drawn lower than this has a chart of its own scale, at most so high.
 const LOWEST_CHART: f64 = 200.0;
 const OWN_CHART: f64 = 360.0;
@@ -42,8 +42,10 @@ const FIRST: f64 = 8.0;
 pub const HOPPER_HEAD: f64 = 43.0;
 /// Below the outlet: arrow, dimensions and their texts.
 const BELOW_OUTLET: f64 = 62.0;
-/// Below a flat floor: arrow and load.
+/// Below a flat floor: arrow and eccentricity.
 const BELOW_FLOOR: f64 = 30.0;
+/// Below the last strake's row: the loads on a flat floor and at the wall's foot.
+const FLOOR_LINES: f64 = 52.0;
 /// Strakes drawn lower than this have no line between them.
 const LOWEST_STRAKE: f64 = 2.0;
 /// Points on the hopper's slope.
@@ -86,22 +88,26 @@ pub struct Outline {
 impl Layout {
     /// Silo, tables and chart between the brim and `lowest`.
     pub fn of(silo: &Description, brim: f64, lowest: f64) -> Layout {
-        let beside = Layout::beside(silo, brim, lowest);
+        let beside = Layout::beside(silo, SILO, brim, lowest);
         let above = Layout::above(silo, brim, lowest);
-        let is_larger = silo.is_flat() && above.scale >= LARGER * beside.scale;
+        let is_larger = above.scale >= LARGER * beside.scale;
         let mut layout = if is_larger { above } else { beside };
         layout.place_rows(silo, lowest);
         layout
     }
 
-    /// A store with a flat floor above its table.
+    /// A wide silo above its tables.
     fn above(silo: &Description, brim: f64, lowest: f64) -> Layout {
-        let wall = silo.wall_height() as f64;
+        let (wall, height) = (silo.wall_height() as f64, silo.built_height() as f64);
         let width = f64::from(silo.section.shorter_side());
         let ends = ends(silo, WIDE_SILO);
+        let (below, bottom) = match silo.is_flat() {
+            true => (BELOW_FLOOR, FLOOR_LINES),
+            false => (BELOW_OUTLET, HOPPER_HEAD + LINE * POINTS as f64),
+        };
         let rows = FIRST + LINE * (silo.strakes.len() - 1) as f64;
-        let room = lowest - brim - 2.0 * BELOW_FLOOR - TABLE_HEAD - rows;
-        let scale = (room / wall).min((ends.1 - ends.0) / width);
+        let room = lowest - brim - below - TABLE_HEAD - rows - bottom;
+        let scale = (room / height).min((ends.1 - ends.0) / width);
         Layout {
             brim,
             scale,
@@ -111,18 +117,18 @@ impl Layout {
             hopper_rows: Vec::new(),
             line: LINE,
             ends,
-            table: (LEFT, brim + wall * scale + BELOW_FLOOR + TABLE_HEAD),
+            table: (LEFT, brim + height * scale + below + TABLE_HEAD),
         }
     }
 
-    /// The silo at the left of its tables, whose rows have no places yet.
-    pub fn beside(silo: &Description, brim: f64, lowest: f64) -> Layout {
+    /// The silo between its ends, at the left of its tables, whose rows have no places yet.
+    pub fn beside(silo: &Description, widest: Point, brim: f64, lowest: f64) -> Layout {
         let (wall, height) = (silo.wall_height() as f64, silo.built_height() as f64);
         let width = f64::from(silo.section.shorter_side());
-        let ends = ends(silo, SILO);
+        let ends = ends(silo, widest);
         let (room, strakes) = (lowest - brim, silo.strakes.len() as f64);
         let (below, head, points) = match silo.is_flat() {
-            true => (BELOW_FLOOR, BELOW_FLOOR, 0),
+            true => (BELOW_FLOOR, FLOOR_LINES, 0),
             false => (BELOW_OUTLET, HOPPER_HEAD, POINTS),
         };
         let line = LINE.min((room - FIRST - head - 6.0) / (strakes - 1.0 + points as f64));
@@ -168,9 +174,22 @@ impl Layout {
         self.table.0 == TABLE.0
     }
 
+    /// Lines lead from the strakes' edges to their rows, or from the points of the slope.
+    pub fn has_strake_leaders(&self, silo: &Description) -> bool {
+        let edges: Vec<f64> = silo.edges().map(|(_, edge)| self.silo_y(edge as f64)).collect();
+        let are_drawn = (0..edges.len()).all(|strake| self.has_edge(silo, strake));
+        let rows = &self.strake_rows;
+        self.is_beside() && are_drawn && !rows.is_empty() && can_be_followed(&edges, rows)
+    }
+
+    pub fn has_hopper_leaders(&self, silo: &Description) -> bool {
+        let points: Vec<f64> = self.slope(silo).iter().rev().map(|point| point.1).collect();
+        self.is_beside() && can_be_followed(&points, &self.hopper_rows)
+    }
+
     /// The columns of the strakes' table; each is flush right.
     pub fn columns(&self) -> [f64; COLUMNS.len()] {
-        COLUMNS.map(|x| x - TABLE.0 + self.table.0)
+        COLUMNS.map(|x| self.table.0 + x)
     }
 
     /// A length in the silo, mm, in pixels.
@@ -262,6 +281,18 @@ fn apart(rows: &[f64], line: f64, (first, last): Point) -> Vec<f64> {
     within.enumerate().map(|(i, place)| place + line * i as f64).collect()
 }
 
+/// Lines are told apart that are at least so far from each other.
+const FOLLOWED: f64 = 2.5;
+
+/// Lines that are level to the gutter and go from there to rows can be told apart.
+fn can_be_followed(places: &[f64], rows: &[f64]) -> bool {
+    let steep = |i: usize| (rows[i] - places[i]) / (TABLE.0 - GUTTER);
+    (1..rows.len()).all(|i| {
+        let apart = (places[i] - places[i - 1]).min(rows[i] - rows[i - 1]);
+        apart / steep(i).abs().max(steep(i - 1).abs()).hypot(1.0) >= FOLLOWED
+    })
+}
+
 /// The least of 1, 2 and 5 times a power of ten that goes into `most` at most `parts` times.
 pub fn round_step(most: f64, parts: f64) -> f64 {
     let least = (most / parts).max(1.0);
@@ -306,7 +337,7 @@ mod tests {
                 let outline = layout.outline(&silo);
                 let (left, right) = layout.ends;
                 assert!(outline.left >= left - 0.1 && outline.right <= right + 0.1);
-                assert!(layout.is_beside() || rows[0] > outline.foot + BELOW_FLOOR);
+                assert!(layout.is_beside() || rows[0] > outline.outlet + BELOW_FLOOR);
                 assert!(outline.outlet < 625.0 && layout.chart_y(layout.wall) < 625.0);
             }
         }

@@ -3,12 +3,13 @@
 use super::hopper;
 use super::layout::{Layout, Outline};
 use super::shown::{self, length};
-use super::svg::{Point, Svg, OUTSIDE, SHORTEST};
+use super::svg::{Point, Svg, OUTSIDE, SHORTEST, SMALL};
+use super::wrap::width;
 use crate::description::{Description, Section};
 
-/// A strake drawn lower than this, or in a silo narrower than this, carries no number.
-const LEAST_NUMBERED: f64 = 12.0;
-const NARROWEST_NUMBERED: f64 = 24.0;
+/// A part of a strake drawn lower than this, or a silo narrower than this, carries no number.
+const LEAST_NUMBERED: f64 = 11.0;
+const NARROWEST_NUMBERED: f64 = 36.0;
 /// From one height's text to the other's.
 const LINE: f64 = 13.0;
 /// Length of the arrows of filling and outlet.
@@ -41,30 +42,66 @@ pub fn draw(svg: &mut Svg, silo: &Description, layout: &Layout) {
     outflow(svg, silo, layout, outline);
 }
 
+/// The lines between strakes.
 fn strakes(svg: &mut Svg, silo: &Description, layout: &Layout, outline: &Outline) {
     let last = silo.strakes.len() - 1;
-    let is_wide = outline.right - outline.left >= NARROWEST_NUMBERED;
+    for (i, (_, edge)) in silo.edges().enumerate() {
+        if i == last && !silo.is_flat() || i < last && layout.has_edge(silo, i) {
+            let y = layout.silo_y(edge as f64);
+            svg.line("edge", (outline.left, y), (outline.right, y));
+        }
+    }
+}
+
+/// The strakes' numbers, clear of the grain's surface and of lines at the heights `cuts`.
+pub fn numbers(svg: &mut Svg, silo: &Description, layout: &Layout, cuts: &[f64]) {
+    let outline = layout.outline(silo);
+    if outline.right - outline.left < NARROWEST_NUMBERED {
+        return;
+    }
+    let cuts = [cuts, &[outline.surface]].concat();
     for (i, (height, edge)) in silo.edges().enumerate() {
         let lower = layout.silo_y(edge as f64);
-        let upper = lower - layout.length(height.into());
-        if i == last && !silo.is_flat() || i < last && layout.has_edge(silo, i) {
-            svg.line("edge", (outline.left, lower), (outline.right, lower));
-        }
-        let (upper, lower) = larger_part((upper, lower), outline.surface);
-        if is_wide && lower - upper >= LEAST_NUMBERED {
+        let strake = (lower - layout.length(height.into()), lower);
+        let (upper, lower) = largest_part(strake, &cuts);
+        if lower - upper >= LEAST_NUMBERED {
             let middle = (outline.left + 10.0, (lower + upper) / 2.0 + 3.5);
             svg.text("middle", middle, &(i + 1).to_string());
         }
     }
 }
 
-/// Of a strake the part above or below the grain's surface.
-fn larger_part((upper, lower): Point, surface: f64) -> Point {
-    match upper < surface && surface < lower {
-        true if surface - upper > lower - surface => (upper, surface),
-        true => (surface, lower),
-        false => (upper, lower),
+/// Right of a wall with strakes too low for numbers within and no lines to their rows: as many numbers as can stand below each other, the
+/// last among them, below the dimension of a headroom and clear of lines at the heights `lines`.
+pub fn numbers_beside(svg: &mut Svg, silo: &Description, layout: &Layout, lines: &[f64]) {
+    let outline = layout.outline(silo);
+    let is_low = |height: &u16| layout.length((*height).into()) < LEAST_NUMBERED;
+    let narrow = outline.right - outline.left < NARROWEST_NUMBERED;
+    if layout.has_strake_leaders(silo) || !narrow && !silo.strakes.iter().any(is_low) {
+        return;
     }
+    let highest = if silo.headroom > 0 { outline.surface + OUTSIDE } else { f64::MIN };
+    // digits and an arrow's head
+    let half = LEAST_NUMBERED / 2.0 + 1.0;
+    let is_clear = |y: f64| y - half >= highest && lines.iter().all(|line| (line - y).abs() > half);
+    let mut below = f64::MAX;
+    let strakes: Vec<(u16, u64)> = silo.edges().collect();
+    for (i, (height, edge)) in strakes.into_iter().enumerate().rev() {
+        let middle = layout.silo_y(edge as f64 - f64::from(height) / 2.0);
+        if below - middle >= LEAST_NUMBERED && is_clear(middle) {
+            svg.text("start small", (outline.right + 5.0, middle + 3.5), &(i + 1).to_string());
+            below = middle;
+        }
+    }
+}
+
+/// Of a strake the largest part that no height cuts.
+fn largest_part((upper, lower): Point, cuts: &[f64]) -> Point {
+    let within = cuts.iter().copied().filter(|cut| upper < *cut && *cut < lower);
+    let mut ends: Vec<f64> = within.chain([upper, lower]).collect();
+    ends.sort_by(f64::total_cmp);
+    let parts = ends.windows(2).map(|ends| (ends[0], ends[1]));
+    parts.max_by(|a, b| (a.1 - a.0).total_cmp(&(b.1 - b.0))).unwrap_or((upper, lower))
 }
 
 /// The diameter or the shorter side.
@@ -122,19 +159,24 @@ fn chain(svg: &mut Svg, x: f64, [upper, middle, lower]: [f64; 3]) {
     svg.arrow((x, lower + OUTSIDE), (x, lower));
 }
 
-/// An eccentricity from the axis to `x`, its text behind it.
-fn eccentricity(svg: &mut Svg, name: &str, distance: u32, (axis, x): Point, y: f64) {
+/// An eccentricity from the axis to `x`. Its text stands behind it, or before the axis where only that is between `ends`.
+fn eccentricity(svg: &mut Svg, text: &str, (axis, x): Point, y: f64, ends: Point) {
     svg.dimension((axis, y), (x, y));
-    let start = (x + Svg::clear_of(x - axis), y + 3.5);
-    svg.over("start", start, &format!("{name} {}", length(distance)));
+    let (clear, wide) = (Svg::clear_of(x - axis), width(text, SMALL) + 4.0);
+    match x + clear + wide > ends.1 && axis - clear - wide >= ends.0 {
+        true => svg.over("end", (axis - clear, y + 3.5), text),
+        false => svg.over("start", (x + clear, y + 3.5), text),
+    }
 }
 
 /// Where the grain comes in: an arrow from above the brim that ends on its surface.
 fn filling(svg: &mut Svg, silo: &Description, layout: &Layout, outline: &Outline) {
     let x = outline.axis + layout.length(silo.filling_eccentricity);
     if silo.filling_eccentricity > 0 {
-        let y = outline.brim - 15.0;
-        eccentricity(svg, "e_i", silo.filling_eccentricity, (outline.axis, x), y);
+        // above the arrows of a low headroom
+        let (y, ends) = (outline.brim - 20.0, (outline.left, outline.right));
+        let text = format!("e_i {}", length(silo.filling_eccentricity));
+        eccentricity(svg, &text, (outline.axis, x), y, ends);
     }
     svg.arrow((x, outline.brim - ARROW), (x, outline.surface));
 }
@@ -160,9 +202,13 @@ pub fn headroom(svg: &mut Svg, silo: &Description, layout: &Layout) {
 fn outflow(svg: &mut Svg, silo: &Description, layout: &Layout, outline: &Outline) {
     let Outline { axis, outlet, .. } = *outline;
     let eccentric = axis + layout.length(silo.outlet_eccentricity);
-    let y = outlet + 13.0;
+    // below the arrows of a low headroom
+    let y = outlet + 14.0;
     if silo.outlet_eccentricity > 0 {
-        eccentricity(svg, "e_o", silo.outlet_eccentricity, (axis, eccentric), y);
+        // a hopper's angle stands before its outlet
+        let ends = (outline.outlet_left, outline.right);
+        let text = format!("e_o {}", length(silo.outlet_eccentricity));
+        eccentricity(svg, &text, (axis, eccentric), y, ends);
     }
     let x = match silo.outlet_is_passed() {
         true => {

@@ -14,7 +14,7 @@ pub const TITLE: f64 = 18.0;
 /// A dimension shorter than this has its arrows outside.
 pub const SHORTEST: f64 = 18.0;
 /// How far arrows that stand outside reach.
-pub const OUTSIDE: f64 = 12.0;
+pub const OUTSIDE: f64 = 10.0;
 
 const STYLE: &str = "\
 @page { size: A4 landscape; margin: 0 }
@@ -191,14 +191,15 @@ impl Svg {
         4.0 + if length < SHORTEST { OUTSIDE } else { 0.0 }
     }
 
-    /// The page of A4, lying; `more` is style of its own.
-    pub fn page(self, title: &str, more: &str) -> String {
+    /// The page of A4, lying, of a silo's file; `more` is style of its own.
+    pub fn page(self, title: &str, file: &str, more: &str) -> String {
         format!(
             "<svg xmlns=\"http://www.w3.org/2000/svg\" width=\"297mm\" height=\"210mm\" \
              viewBox=\"0 0 {WIDTH} {HEIGHT}\">\n\
-             <title>{}</title>\n<style>\n{STYLE}{more}</style>\n\
+             <title>{}</title>\n<desc>{}</desc>\n<style>\n{STYLE}{more}</style>\n\
              <rect width=\"{WIDTH}\" height=\"{HEIGHT}\" fill=\"#fff\"/>\n{}</svg>\n",
             escape(title),
+            escape(file),
             self.body
         )
     }

@@ -1,5 +1,6 @@
 //! The kinds of file that the tool writes: their names' endings, and how one is known by its bytes.
 
+use crate::csv;
 use crate::library::{self, Refusal};
 use crate::patch;
 use crate::report::PROGRAM;
@@ -16,13 +17,15 @@ pub enum Kind {
     Page,
     Csv,
     Json,
-    /// The patch round a shell: its drawing, its table, and the same as CSV.
+    /// The patch of a circle: its drawing, its table, and the same as CSV and JSON.
     PatchDrawing,
     Patch,
     PatchCsv,
-    /// Table 7.1, and the same as CSV.
+    PatchJson,
+    /// Table 7.1, and the same as CSV and as JSON.
     Catalogue,
     CatalogueCsv,
+    CatalogueJson,
     /// A silo's text.
     Text,
 }
@@ -37,7 +40,7 @@ impl Kind {
             Kind::Table | Kind::Patch => "table",
             Kind::Page => "page",
             Kind::Csv | Kind::PatchCsv | Kind::CatalogueCsv => "CSV",
-            Kind::Json => "JSON",
+            Kind::Json | Kind::PatchJson | Kind::CatalogueJson => "JSON",
             Kind::Catalogue => "catalogue",
             Kind::Text => "text",
         }
@@ -54,10 +57,21 @@ impl Kind {
             Kind::PatchDrawing => "a drawing of a patch",
             Kind::Patch => "a table of a patch",
             Kind::PatchCsv => "CSV of a patch",
+            Kind::PatchJson => "JSON of a patch",
             Kind::Catalogue => "the catalogue",
             Kind::CatalogueCsv => "the catalogue's CSV",
+            Kind::CatalogueJson => "the catalogue's JSON",
             Kind::Text => "a silo's text",
         }
+    }
+
+    pub fn is_csv(self) -> bool {
+        matches!(self, Kind::Csv | Kind::PatchCsv | Kind::CatalogueCsv)
+    }
+
+    /// All but table 7.1.
+    pub fn is_of_a_silo(self) -> bool {
+        !matches!(self, Kind::Catalogue | Kind::CatalogueCsv | Kind::CatalogueJson)
     }
 
     /// The first is offered.
@@ -68,7 +82,7 @@ impl Kind {
             Kind::Table | Kind::Patch | Kind::Catalogue => &["txt"],
             Kind::Page => &["page", "txt"],
             Kind::Csv | Kind::PatchCsv | Kind::CatalogueCsv => &["csv"],
-            Kind::Json => &["json"],
+            Kind::Json | Kind::PatchJson | Kind::CatalogueJson => &["json"],
             Kind::Text => &["silo", "txt"],
         }
     }
@@ -99,11 +113,15 @@ impl Kind {
         }
         let text = std::str::from_utf8(bytes).ok()?;
         let text = text.strip_prefix('\u{feff}').unwrap_or(text);
-        let tests: [(Kind, Test); 11] = [
+        let tests: [(Kind, Test); 13] = [
             (Kind::PatchDrawing, |text| is_drawing(text) && text.contains(SHELL)),
             (Kind::Drawing, is_drawing),
             (Kind::Json, |text| text.starts_with('{') && text.contains("\"p_he\"")),
-            (Kind::PatchCsv, |text| first_cell(text) == "silo" && text.contains("p_ps (")),
+            (Kind::CatalogueJson, |text| {
+                text.starts_with('{') && text.contains("\"friction_on_concrete_")
+            }),
+            (Kind::PatchJson, |text| text.starts_with('{') && text.contains("\"band\"")),
+            (Kind::PatchCsv, |text| first_cell(text) == "silo" && csv::has_patch(text)),
             (Kind::Csv, |text| first_cell(text) == "silo" && text.contains("p_he")),
             (Kind::CatalogueCsv, |text| first_cell(text) == "row" && text.contains("on steel")),
             (Kind::Catalogue, |text| text.starts_with(CATALOGUE) && ends_with_program(text)),
@@ -140,7 +158,8 @@ fn is_drawing(text: &str) -> bool {
 
 /// A line after the file's name describes a patch.
 fn has_patch(text: &str) -> bool {
-    text.lines().skip(1).any(|line| line.starts_with(patch::HEADING))
+    let describes = |line: &str| patch::HEADINGS.iter().any(|heading| line.starts_with(heading));
+    text.lines().skip(1).any(describes)
 }
 
 fn first_cell(text: &str) -> &str {

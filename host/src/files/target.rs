@@ -1,27 +1,35 @@
 //! The file after `-o`: judged before anything is written, then replaced as a whole or left as it
 //! was.
 
-use super::{unwritten, whole, without_reader, Input, Kind};
+use super::replace::{pour, replace, New};
+use super::{unwritten, Held, Input, Kind, Replacement, Silo};
 use crate::number::in_threes;
-use std::ffi::OsStr;
-use std::fs::{self, File, Metadata, OpenOptions};
-use std::io::{self, ErrorKind, Write};
-use std::os::unix::fs::{fchown, FileTypeExt, MetadataExt};
+use std::ffi::{OsStr, OsString};
+use std::fs::{self, Metadata, OpenOptions};
+use std::io::ErrorKind;
+use std::os::unix::fs::FileTypeExt;
 use std::path::{Path, PathBuf};
 
 /// A file that may be written.
 pub struct Target<'a> {
     name: &'a OsStr,
     kind: Kind,
+    input: Option<&'a Input>,
     place: Place,
 }
 
 enum Place {
     New(PathBuf),
-    /// A regular file, behind all links, and what is to be kept of it.
-    Old(PathBuf, Metadata),
+    Old(Old),
     /// A device or a pipe.
     Stream(PathBuf),
+}
+
+/// A regular file, behind all links, and what is to be kept of it.
+struct Old {
+    path: PathBuf,
+    metadata: Metadata,
+    replacement: Replacement,
 }
 
 const ANOTHER: &str = "choose another name, or --force replaces it";
@@ -32,7 +40,7 @@ impl<'a> Target<'a> {
     pub fn of(
         name: &'a OsStr,
         kind: Kind,
-        input: Option<&Input>,
+        input: Option<&'a Input>,
         force: bool,
     ) -> Result<Target<'a>, String> {
         let found = found(name)?;
@@ -48,36 +56,96 @@ impl<'a> Target<'a> {
         let place = match found {
             None => Place::New(path),
             Some(old) if !old.is_file() => Place::Stream(path),
-            Some(old) => {
+            Some(metadata) => {
                 let path = path.canonicalize().map_err(|error| format!("{shown}: {error}"))?;
-                may_be_written(&path, &old).map_err(|why| format!("{shown}: {why}"))?;
-                if !force {
-                    may_be_replaced(&path, kind)
-                        .map_err(|why| format!("{shown} {why}; {ANOTHER}"))?;
-                }
-                Place::Old(path, old)
+                may_be_written(&path, &metadata).map_err(|why| format!("{shown}: {why}"))?;
+                let silo = input.and_then(|input| Silo::of_file(&input.name));
+                let replacement = match force {
+                    true => Ok(Replacement::Plain),
+                    false => Held::by(&path).and_then(|held| held.replacement(kind, silo.as_ref())),
+                };
+                let replacement = replacement.map_err(|why| format!("{shown} {why}; {ANOTHER}"))?;
+                Place::Old(Old { path, metadata, replacement })
             }
         };
-        Ok(Target { name, kind, place })
+        Ok(Target { name, kind, input, place })
     }
 
     /// What was written, in words, or why it was not.
     pub fn write(&self, bytes: &[u8]) -> Result<String, String> {
         let written = match &self.place {
-            Place::New(path) => replace(path, None, bytes),
-            Place::Old(path, old) => replace(path, Some(old), bytes)
-                .map_err(|why| format!("{why}; the old file is as it was")),
-            Place::Stream(path) => pour(path, bytes).map_err(|error| unwritten(&error)),
+            Place::New(path) => replace(path, None, bytes).map(|()| ("written", None)),
+            Place::Old(old) => {
+                self.replaced(old, bytes).map_err(|why| format!("{why}; the old file is as it was"))
+            }
+            Place::Stream(path) => pour(path, bytes).map(|()| ("written", None)),
         };
-        let (name, kind) = (self.name.display(), self.kind.word());
-        match written {
-            Ok(done) => Ok(format!(
-                "{name}: {kind} {done}, {} bytes",
-                in_threes(&bytes.len().to_string(), ',')
-            )),
-            Err(why) => Err(format!("{name}: not written: {why}")),
+        let name = self.name.display();
+        let (done, copy) = written.map_err(|why| format!("{name}: not written: {why}"))?;
+        let copy = copy.map(|copy| format!("; the old one is {}", copy.display()));
+        Ok(format!(
+            "{name}: {} {done}, {} bytes{}",
+            self.kind.word(),
+            in_threes(&bytes.len().to_string(), ','),
+            copy.unwrap_or_default()
+        ))
+    }
+
+    /// Puts the new file in the old one's place; the old one's copy, if it needs one. Only when the new file is whole is a copy
+    /// made, and only then the old one replaced.
+    fn replaced(&self, old: &Old, bytes: &[u8]) -> Result<(&'static str, Option<PathBuf>), String> {
+        let new = New::beside(&old.path, Some(&old.metadata), bytes)?;
+        let copy = match old.replacement {
+            Replacement::Plain => None,
+            Replacement::WithCopy => self.copied(old, bytes)?,
+        };
+        new.put(&old.path)?;
+        Ok((if old.metadata.len() > 0 { "replaced" } else { "written" }, copy))
+    }
+
+    /// A copy of the old file, unless it is equal to the new one: `NAME~` beside it, behind all links.
+    fn copied(&self, old: &Old, bytes: &[u8]) -> Result<Option<PathBuf>, String> {
+        let held = fs::read(&old.path).map_err(|error| unwritten(&error))?;
+        if held == bytes {
+            return Ok(None);
+        }
+        let name = if Path::new(self.name).is_symlink() { old.path.as_os_str() } else { self.name };
+        let copy = PathBuf::from([name, OsStr::new("~")].into_iter().collect::<OsString>());
+        let done = self.may_be_copy(&copy);
+        let done = done.and_then(|()| replace(&copy, Some(&old.metadata), &held));
+        match done {
+            Ok(()) => Ok(Some(copy)),
+            Err(why) => Err(format!("the old one is to be left as {}: {why}", copy.display())),
         }
     }
+
+    /// Nothing is lost under the copy's name.
+    fn may_be_copy(&self, copy: &Path) -> Result<(), String> {
+        let found = match fs::symlink_metadata(copy) {
+            Err(error) if error.kind() == ErrorKind::NotFound => return Ok(()),
+            found => found.map_err(|error| unwritten(&error))?,
+        };
+        if !found.is_file() {
+            return Err(format!("that is no plain file; {ANOTHER}"));
+        }
+        if self.input.is_some_and(|input| input.is(&found)) {
+            return Err(format!("that is the file that is read; {ANOTHER}"));
+        }
+        may_be_written(copy, &found)?;
+        let replacement = Held::by(copy).and_then(|held| held.replacement(self.kind, None));
+        replacement.map(|_| ()).map_err(|why| format!("that {why}; {ANOTHER}"))
+    }
+}
+
+/// What stays where an output was to go: that it stays, what it is and of which silo. None where no
+/// file stands there.
+pub fn stays(name: &OsStr) -> Option<String> {
+    let path = Path::new(name);
+    path.is_file().then(|| {
+        let held = Held::by(path).ok().and_then(|held| held.words());
+        let held = held.map(|words| format!(": {words}")).unwrap_or_default();
+        format!("{} stays as it was{held}", name.display())
+    })
 }
 
 /// What stands under a name, behind all links. A folder, a disk and a link to nothing are refused.
@@ -110,83 +178,5 @@ fn may_be_written(path: &Path, old: &Metadata) -> Result<(), String> {
     match denied || old.permissions().readonly() {
         true => Err("the file is write-protected; choose another name".to_string()),
         false => Ok(()),
-    }
-}
-
-/// An empty file or one of the same kind, unless it may be written by hand.
-fn may_be_replaced(path: &Path, kind: Kind) -> Result<(), String> {
-    let bytes = File::open(path).and_then(|file| whole(&file));
-    let bytes = bytes.map_err(|error| format!("may not be read ({error}) and may be of use"))?;
-    if bytes.as_ref().is_some_and(Vec::is_empty) {
-        return Ok(());
-    }
-    match bytes.and_then(|bytes| Kind::of(&bytes)) {
-        Some(Kind::Text) if kind == Kind::Text => {
-            Err("holds a silo's text, which may be written by hand".to_string())
-        }
-        Some(found) if found == kind => Ok(()),
-        Some(found) => Err(format!("holds {}, not {}", found.with_article(), kind.with_article())),
-        None => Err(format!("holds something other than {} by silo", kind.with_article())),
-    }
-}
-
-/// Writes beside the file and renames, so that a full disk or a power cut leaves the old one.
-fn replace(path: &Path, old: Option<&Metadata>, bytes: &[u8]) -> Result<&'static str, String> {
-    let folder = folder(path);
-    let (temporary, file) = create_in(folder).map_err(|error| in_folder(&error, folder))?;
-    let done = fill(&file, old, bytes).and_then(|()| fs::rename(&temporary, path));
-    if let Err(error) = done {
-        let _ = fs::remove_file(&temporary);
-        return Err(in_folder(&error, folder));
-    }
-    Ok(if old.is_some_and(|old| old.len() > 0) { "replaced" } else { "written" })
-}
-
-/// A new hidden file. One with a process's number may be left over from a power cut.
-fn create_in(folder: &Path) -> io::Result<(PathBuf, File)> {
-    let mut count = 0;
-    loop {
-        let path = folder.join(format!(".silo-{}-{count}.new", std::process::id()));
-        match OpenOptions::new().write(true).create_new(true).open(&path) {
-            Err(error) if error.kind() == ErrorKind::AlreadyExists && count < 100 => count += 1,
-            opened => return opened.map(|file| (path, file)),
-        }
-    }
-}
-
-/// Writes to the disk, with the old file's permissions, and its owner where that is allowed.
-fn fill(mut file: &File, old: Option<&Metadata>, bytes: &[u8]) -> io::Result<()> {
-    file.write_all(bytes)?;
-    if let Some(old) = old {
-        let _ = fchown(file, Some(old.uid()), Some(old.gid()));
-        if file.metadata()?.permissions() != old.permissions() {
-            file.set_permissions(old.permissions())?;
-        }
-    }
-    file.sync_all()
-}
-
-/// Writes to a device or a pipe.
-fn pour(path: &Path, bytes: &[u8]) -> io::Result<&'static str> {
-    let mut stream = OpenOptions::new().write(true).open(path)?;
-    without_reader(stream.write_all(bytes)).map(|()| "written")
-}
-
-fn folder(path: &Path) -> &Path {
-    match path.parent() {
-        Some(folder) if !folder.as_os_str().is_empty() => folder,
-        _ => Path::new("."),
-    }
-}
-
-/// Why a file could not be written to a folder.
-fn in_folder(error: &io::Error, folder: &Path) -> String {
-    let shown = folder.display();
-    match error.kind() {
-        ErrorKind::NotFound if !folder.exists() => format!("there is no folder {shown}"),
-        ErrorKind::NotFound | ErrorKind::PermissionDenied => {
-            format!("you may not write to the folder {shown} ({error})")
-        }
-        _ => unwritten(error),
     }
 }

@@ -3,6 +3,7 @@
 use super::read::Reader;
 use crate::catalogue::{self, Origin, Wall};
 use crate::description::Product;
+use crate::message::{self, Slip};
 use crate::name::Name;
 use crate::number::{Measure, FACTOR, FRICTION, RATIO, WEIGHT};
 use crate::value;
@@ -13,7 +14,7 @@ const PROPERTIES: [Name; 4] = [Name::Weight, Name::Ratio, Name::Friction, Name::
 /// A line is there and could not be read; its error is told.
 struct Unread;
 
-impl Reader<'_> {
+impl Reader {
     /// A row of table 7.1, some of its numbers replaced by the text's own, or four numbers.
     pub(super) fn product(&mut self) -> Option<(Product, Origin)> {
         let wall = self.wall();
@@ -52,11 +53,8 @@ impl Reader<'_> {
         }
         let replaced: Vec<Name> = PROPERTIES.into_iter().filter(|name| self.has(*name)).collect();
         if replaced.len() == PROPERTIES.len() {
-            let mend = "leave out product, or the numbers that are table 7.1's";
-            self.fail(
-                self.line(Name::Product),
-                format!("product beside all four of its numbers: {mend}"),
-            );
+            let slip = Slip::new(message::Product::BesideItsNumbers);
+            self.fail(self.line(Name::Product), slip);
         }
         let weight = self.replacement(Name::Weight, &WEIGHT);
         let ratio = self.replacement(Name::Ratio, &RATIO);
@@ -64,7 +62,8 @@ impl Reader<'_> {
         let factor = self.replacement(Name::Factor, &FACTOR);
         let (row, wall) = (row?, wall.ok()?);
         let table = self.take(Name::Product, |_| {
-            Origin::numbers(row, wall.as_ref()).map_err(|refusal| refusal.meaning().to_string())
+            let numbers = Origin::numbers(row, wall.as_ref());
+            numbers.map_err(|refusal| Slip::new(message::Product::Refused(refusal.meaning())))
         })?;
         let product = Product {
             weight: weight?.unwrap_or(table.weight),
@@ -77,18 +76,14 @@ impl Reader<'_> {
 
     /// Table 7.1 has a friction for smooth steel and for concrete alone.
     fn friction_due(&mut self, wall: &Result<Option<Wall>, Unread>) {
-        const OWN: &str =
-            "add a line friction = with your own value, 0.10 to 1.00, for this grain on this wall";
         match wall {
             Ok(None) if self.is_meant(&[Name::Wall, Name::Friction]) => (),
             Ok(None) => {
-                let walls = "add wall = steel or wall = concrete; for a corrugated wall";
-                self.fail(None, format!("no line for wall; {walls} {OWN}"));
+                let fixes = Name::Wall.choices().iter().map(|line| line.to_string()).collect();
+                self.fail_with(None, Slip::new(message::Product::NoWall), fixes)
             }
             Ok(Some(Wall::Corrugated(_))) => {
-                let table = "table 7.1 has frictions for smooth steel and for concrete, and none";
-                let message = format!("{table} for corrugated walls (its note 4); {OWN}");
-                self.fail(self.line(Name::Wall), message);
+                self.fail(self.line(Name::Wall), Slip::new(message::Product::NoFriction))
             }
             _ => (),
         }
@@ -96,17 +91,16 @@ impl Reader<'_> {
 
     /// A number in place of a row's, where it has a line. Blank or 0 is turned away: a blank factor is not the row's.
     fn replacement<T: TryFrom<u64>>(&mut self, name: Name, measure: &Measure) -> Option<Option<T>> {
-        let Some((line, value)) = self.entries[name as usize] else { return Some(None) };
-        let number = match value {
-            "" => Some(0),
-            _ => self.number::<u64>(name, measure),
+        let Some(line) = self.entry(name).cloned() else { return Some(None) };
+        let number = match line.value.is_empty() {
+            true => Some(0),
+            false => self.number::<u64>(name, measure),
         };
         if number == Some(0) {
-            let mend = match name {
-                Name::Friction => "write your own, or leave the line out on steel or concrete",
-                _ => "write your own, or leave the line out to take table 7.1's",
-            };
-            self.fail(Some(line), format!("{} is blank or 0 beside product; {mend}", name.word()));
+            let slip = Slip::new(message::Product::BlankBesideProduct(name));
+            // on a corrugated wall a friction is due
+            let fixes = if name == Name::Friction { Vec::new() } else { vec![line.left_out()] };
+            self.fail_with(Some(line.number), slip, fixes);
             return None;
         }
         T::try_from(number?).ok().map(Some)

@@ -7,6 +7,17 @@ pub fn root() -> PathBuf {
     PathBuf::from(env!("CARGO_MANIFEST_DIR")).join("..")
 }
 
+/// The samples that have loads.
+pub const SAMPLES: [&str; 7] = [
+    "wheat-tower",
+    "barley-bin",
+    "cement",
+    "corrugated-bin",
+    "flat-store",
+    "headroom-bin",
+    "blank-factor",
+];
+
 pub fn sample(name: &str) -> Vec<u8> {
     std::fs::read(root().join("samples").join(name)).expect(name)
 }
@@ -88,4 +99,9 @@ impl Random {
     pub fn of<T: Copy>(&mut self, choices: &[T]) -> T {
         choices[self.below(choices.len())]
     }
+}
+
+/// Nothing is said but that a silo is improbable.
+pub fn only_doubts(messages: &str) -> bool {
+    messages.lines().all(|line| line.contains(": Doubt: "))
 }

@@ -91,6 +91,11 @@ fn em(c: char) -> f64 {
     }
 }
 
+/// Of a table's numbers.
+fn stands_on_its_line(c: char) -> bool {
+    c.is_ascii_digit() || "k =-.\u{2009}\u{200b}".contains(c)
+}
+
 /// Words of an element in pieces, each with the classes of its `tspan`.
 fn pieces(content: &str) -> Vec<(&str, String)> {
     let mut classes = "";
@@ -130,9 +135,10 @@ fn text(style: &str, line: &str) -> Text {
         _ => 0.0,
     };
     let lowered = numbers(attribute(content, "dy")).first().copied().unwrap_or(0.0);
-    let box_of = [(start, -ASCENT * own), (start + width, DESCENT * own + lowered)];
-    let [low, high] = placed(tag, box_of);
     let words: String = pieces.iter().map(|(_, words)| &**words).collect();
+    let descent = if words.chars().all(stands_on_its_line) { 0.0 } else { DESCENT };
+    let box_of = [(start, -ASCENT * own), (start + width, descent * own + lowered)];
+    let [low, high] = placed(tag, box_of);
     let least_size = pieces.iter().map(|(size, _)| *size).fold(own, f64::min);
     Text { words: words.replace(['\u{200b}', '\u{2009}'], ""), least_size, low, high }
 }
@@ -181,9 +187,10 @@ impl Page {
         dots.map(|(_, _, points)| points[0])
     }
 
-    /// Type that cannot be read in print, what stands over the margins, and text on other text.
+    /// Type that cannot be read in print, what stands over the margins, text on other text, and arrows
+    /// in text.
     pub fn faults(&self) -> Vec<String> {
-        [unreadable(self), outside(self), overlapping(self)].concat()
+        [unreadable(self), outside(self), overlapping(self), struck(self)].concat()
     }
 
     /// Of these words, those that stand nowhere.
@@ -227,6 +234,23 @@ fn overlapping(page: &Page) -> Vec<String> {
         faults.extend(others.map(|other| format!("{one:?} on {other:?}")));
     }
     faults
+}
+
+/// A line below a text may touch its lowered letters.
+const LOWERED: f64 = 3.0;
+
+/// Texts with an arrow head or a dimension in them, which is level or upright.
+fn struck(page: &Page) -> Vec<String> {
+    let heads = page.shapes("arrow").flatten().map(|point| [*point, *point]);
+    let lines = page.shapes("dimension").filter(|line| line.len() == 2);
+    let lines: Vec<[Point; 2]> = heads.chain(lines.map(|line| [line[0], line[1]])).collect();
+    let meet = |(a, b): Point, low: f64, high: f64| a.min(b) < high && low < a.max(b);
+    let strikes = |[one, other]: &[Point; 2], text: &Text| {
+        meet((one.0, other.0), text.low.0, text.high.0)
+            && meet((one.1, other.1), text.low.1, text.high.1 - LOWERED)
+    };
+    let struck = page.texts.iter().filter(|text| lines.iter().any(|line| strikes(line, text)));
+    struck.map(|text| format!("struck through: {text:?}")).collect()
 }
 
 /// Without spaces and the mark of a lowered letter.

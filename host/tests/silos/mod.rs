@@ -11,7 +11,7 @@ use silo::units::Units;
 /// What differs from the silo of `common`; `true` has a flat floor.
 pub type Case = (&'static str, bool, &'static [(&'static str, &'static str)]);
 
-pub const CASES: [Case; 53] = [
+pub const CASES: [Case; 57] = [
     ("bin", false, &[]),
     ("tower", true, &[]),
     ("eccentric-tower", true, &[("e_o", "1 m"), ("e_i", "20 mm")]),
@@ -331,6 +331,35 @@ pub const CASES: [Case; 53] = [
             ("e_i", "125 mm"),
         ],
     ),
+    (
+        "wide-bin-on-a-small-hopper",
+        false,
+        &[
+            ("diameter", "30 m"),
+            ("strakes", "3 x 1500 mm"),
+            ("hopper height", "400 mm"),
+            ("hopper run", "500 mm"),
+            ("headroom", "500 mm"),
+            ("e_i", "7500 mm"),
+            ("e_o", "7500 mm"),
+        ],
+    ),
+    (
+        "low-strakes-on-a-hopper",
+        false,
+        &[("diameter", "4 m"), ("strakes", "24 x 200 mm"), ("hopper run", "1500 mm")],
+    ),
+    (
+        "low-strakes-on-a-wide-hopper",
+        false,
+        &[
+            ("diameter", "20 m"),
+            ("strakes", "24 x 200 mm"),
+            ("hopper height", "6 m"),
+            ("hopper run", "8 m"),
+        ],
+    ),
+    ("foot-between-steps", true, &[("strakes", "2 x 1230, 2 x 1170, 243 mm"), ("e_i", "1250 mm")]),
 ];
 
 pub fn described(text: &str) -> (Description, Origin) {

@@ -5,7 +5,7 @@
 //! cannot be read, or standard output not be written, the program says so on standard error.
 //!
 //! A refused sheet prints `REFUSED`, its number and nothing else. The program's status is 0 always, the tool's 1 for a refused sheet, with
-//! its words on standard error.
+//! its words on standard error; of an accepted one the tool may say there that it is improbable, and no more.
 //!
 //! Prints how many sheets there were; ends with status 1 at a difference, and where a kind of sheet or a refusal is missing.
 

@@ -1,0 +1,110 @@
+//! Names that a text does not have: what is said of each, so that none leads to a lighter silo. And what a sheet leaves unsaid.
+
+mod common;
+
+use common::text_with;
+use silo::commands::{self, Format};
+use silo::text;
+
+/// A line, and what the message on it has.
+const LINES: [((&str, &str), &str); 18] = [
+    (("heap", "1500 mm"), "a heap that would lie above the brim is not covered"),
+    (("overfill", "0.5 m"), "without it the loads are too low"),
+    (("grain above brim", "500 mm"), "without it the loads are too low"),
+    (("talus", "500 mm"), "without it the loads are too low"),
+    (("partial factor", "1.5"), "characteristic values without partial factors"),
+    (("Safety factor", "1.5"), "factor is the product's C0"),
+    (("facteur de charge", "1.5"), "factor is the product's C0"),
+    (("gamma_F", "1.5"), "characteristic values without partial factors"),
+    (("mean weight", "7.65 kN/m3"), "a measured mean is to be raised by at least 1.15"),
+    (("poids moyen", "7.65 kN/m3"), "a measured mean is to be raised by at least 1.15"),
+    (("friction low", "0.27"), "friction is the mean"),
+    (("frottement haut", "0.40"), "friction is the mean"),
+    (("characteristic friction", "0.40"), "friction is the mean"),
+    (("internal friction", "30 deg"), "is not the friction on the wall"),
+    (("hopper angle from vertical", "30 deg"), "90 degrees less the one from the vertical"),
+    (("strakes (bottom first)", "2 x 3000, 6 x 1000 mm"), "turn the list round"),
+    (("viroles de bas en haut", "2 x 3000, 6 x 1000 mm"), "turn the list round"),
+    (("half angle", "30 deg"), "90 degrees less the one from the vertical"),
+];
+
+/// None of them is offered as a line of the text with the same number.
+#[test]
+fn what_a_text_does_not_have_is_answered() {
+    for ((name, value), words) in LINES {
+        let messages = text::read(&text_with(&[(name, value)])).expect_err(name);
+        let [message] = &messages[..] else { panic!("{name}: {messages:?}") };
+        assert!(message.words().contains(words), "{}", message.words());
+        let with_number = |fix: &&String| !fix.starts_with('#') && fix.contains(value);
+        assert_eq!(message.fixes.iter().find(with_number), None, "{name}");
+    }
+}
+
+/// A slip, and what its fixes begin with: the careful one first, and no lighter one beside it.
+type Slip = (&'static [(&'static str, &'static str)], &'static [&'static str]);
+const CAREFUL: [Slip; 8] = [
+    (&[("headroom", "150.5 mm")], &["headroom = 150 mm"]),
+    (&[("headroom", "0m30")], &["headroom = 300 mm"]),
+    (
+        &[("outlet eccentricity", "0.5 mm")],
+        &["outlet eccentricity = 1 mm", "outlet eccentricity = 0.5 m"],
+    ),
+    (
+        &[("product", "wheat"), ("weight", "78 kg/hl"), ("ratio", "-"), ("wall", "steel")],
+        &["# weight = 78 kg/hl", "weight = 8800 N/m3"],
+    ),
+    (&[("wall", "stel")], &["wall = steel"]),
+    (&[("wall", "concret")], &["wall = concrete"]),
+    (&[("wall", "stainless")], &[]),
+    (&[("wall", "bright steel")], &[]),
+];
+
+#[test]
+fn fixes_are_careful() {
+    for (changes, fixes) in CAREFUL {
+        let messages = text::read(&text_with(changes)).expect_err("a slip");
+        assert_eq!(messages[0].fixes, fixes, "{changes:?}");
+    }
+}
+
+#[test]
+fn a_sheet_says_what_it_leaves_out() {
+    let said = |changes: &[(&str, &str)]| {
+        commands::sheet("any.silo", text_with(changes).as_bytes()).messages
+    };
+    assert_eq!(said(&[]), "");
+    assert_eq!(said(&[("wall", "steel")]), "");
+    for changes in [("wall", "concrete"), ("stiffeners", "yes")] {
+        assert!(said(&[changes]).starts_with("note: a sheet does not say"), "{changes:?}");
+    }
+    assert_eq!(said(&[("diameter", "-"), ("sides", "5 x 6 m"), ("wall", "concrete")]), "");
+}
+
+/// Two of 4 m, or 2 m by 4 m: neither is offered.
+#[test]
+fn a_square_may_be_meant() {
+    let said = |sides| {
+        let text = text_with(&[("diameter", "-"), ("sides", sides)]);
+        commands::check("any.silo", text.as_bytes(), Format::Table).output
+    };
+    let said = |sides| String::from_utf8(said(sides)).expect("UTF-8");
+    assert!(!said("2 x 4000 mm").contains("did you mean"));
+    assert!(said("4 x 6000 mm").contains("did you mean 4000 mm?"));
+}
+
+/// Every length is read in every unit of length.
+#[test]
+fn lengths_in_feet() {
+    for name in ["headroom", "filling eccentricity", "outlet eccentricity", "diameter"] {
+        let changes = [("diameter", "20000 mm"), (name, "5 ft")];
+        let read = text::read(&text_with(&changes)).unwrap_or_else(|said| panic!("{said:?}"));
+        let silo = read.description;
+        let lengths = [
+            silo.headroom,
+            silo.filling_eccentricity,
+            silo.outlet_eccentricity,
+            silo.section.shorter_side(),
+        ];
+        assert!(lengths.contains(&1524), "{name}: {lengths:?}");
+    }
+}
