@@ -5,14 +5,13 @@ use crate::description::{Description, Section};
 use crate::discharge::Discharge;
 use crate::fraction::Fraction;
 use crate::library::{Loads, P_W};
+use crate::number::GRAVITY;
 use crate::report::Report;
 
 /// pi lies between the first and the second, 10^-14.
 const PI: [u64; 2] = [314_159_265_358_979, 314_159_265_358_980];
 /// d_c below which 5.2.2.3 has a simplified rule for the patch, mm
 const SIMPLIFIED: u32 = 5000;
-/// m/s2, hundredths
-const GRAVITY: u32 = 981;
 
 /// Litres of a silo to the brim and to the grain's surface, kg to the surface, and N.
 #[derive(Clone, Copy, Debug, PartialEq, Eq)]

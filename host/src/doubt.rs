@@ -4,7 +4,9 @@ mod measured;
 
 use crate::catalogue::Origin;
 use crate::description::{Description, Section};
+use crate::fraction::Fraction;
 use crate::name::Name;
+use crate::number::hundredths;
 use measured::{self as of, Case};
 
 /// What is improbable in a silo.
@@ -36,6 +38,18 @@ enum Limit {
 use Limit::{Over, Under};
 
 impl Limit {
+    /// As reasons have it: a whole number, a decimal, or a fraction that is none.
+    fn shown(self) -> String {
+        let (Over(top, bottom) | Under(top, bottom)) = self;
+        let limit = Fraction::new(top, bottom);
+        match bottom {
+            1 => top.to_string(),
+            100 => hundredths(top),
+            _ if limit.ends_within(1) => limit.to(1),
+            _ => format!("{top}/{bottom}"),
+        }
+    }
+
     fn is_passed(self, (top, bottom): Ratio) -> bool {
         let times = |a: u64, b: u64| u128::from(a) * u128::from(b);
         match self {
@@ -53,7 +67,7 @@ struct Row {
     limit: Limit,
     /// What the silo has, in words.
     seen: fn(&Case) -> String,
-    /// What the limit is, and why it is one.
+    /// What the limit is, with {} in its place, and why it is one.
     reasons: &'static [&'static str],
 }
 
@@ -67,6 +81,15 @@ const fn row(
     Row { code, name, measured, limit, seen, reasons }
 }
 
+impl Row {
+    /// The reasons, of which the last may be a question.
+    fn sentence(&self) -> String {
+        let sentence = self.reasons.join("; ").replace("{}", &self.limit.shown());
+        let point = if sentence.ends_with('?') { "" } else { "." };
+        sentence + point
+    }
+}
+
 const LOWER_WEIGHT: &str = "a lower weight lowers every load";
 const LOWER_RATIO: &str = "a lower ratio lowers horizontal pressure and wall friction";
 const HIGHER_RATIO: &str = "a higher ratio lowers vertical pressure and the load on a floor";
@@ -78,7 +101,7 @@ const LOWER_WALL: &str = "the lower the wall, the lower its loads";
 const SLIP: &str = "is it a slip of ten?";
 const UNIT: &str = "were cm or m meant?";
 
-/// Lengths in mm, weights in N/m³, ratio, friction and factor in hundredths. Those of a product that the text names are measured by its
+/// Lengths in mm, weights in N/m³; ratio, friction and factor. Those of a product that the text names are measured by its
 /// row of table 7.1.
 const DOUBTS: [Row; 31] = [
     row(
@@ -87,7 +110,7 @@ const DOUBTS: [Row; 31] = [
         Over(1, 3),
         of::headroom_seen,
         &[
-            "over a third of the wall, and it lowers every load",
+            "over {} of the wall, and it lowers every load",
             "if the grain's height was meant, the headroom is the rest",
         ],
     ),
@@ -159,77 +182,77 @@ const DOUBTS: [Row; 31] = [
         |case| case.without_product(Name::Weight),
         Under(4000, 1),
         |case| case.line(Name::Weight),
-        &["under 4000 N/m3, lighter than grain", LOWER_WEIGHT],
+        &["under {} N/m3, lighter than grain", LOWER_WEIGHT],
     ),
     row(
         ("ratio-low", Name::Ratio),
         |case| case.without_product(Name::Ratio),
-        Under(40, 1),
+        Under(40, 100),
         |case| case.line(Name::Ratio),
-        &["table 7.1 has none under 0.40", LOWER_RATIO, "is it the friction?"],
+        &["table 7.1 has none under {}", LOWER_RATIO, "is it the friction?"],
     ),
     row(
         ("ratio-high", Name::Ratio),
         |case| case.without_product(Name::Ratio),
-        Over(70, 1),
+        Over(70, 100),
         |case| case.line(Name::Ratio),
-        &["over 0.70, and table 7.1 has none over 0.55", HIGHER_RATIO],
+        &["over {}, and table 7.1 has none over 0.55", HIGHER_RATIO],
     ),
     row(
         ("friction-low", Name::Friction),
         of::friction_without_wall,
-        Under(20, 1),
+        Under(20, 100),
         |case| case.line(Name::Friction),
-        &["under 0.20, and table 7.1 has none under 0.30", LOWER_FRICTION],
+        &["under {}, and table 7.1 has none under 0.30", LOWER_FRICTION],
     ),
     row(
         ("friction-high", Name::Friction),
         of::friction_by_itself,
-        Over(60, 1),
+        Over(60, 100),
         |case| case.line(Name::Friction),
-        &["over 0.60, more than grain of 30 degrees has on itself", HIGHER_FRICTION],
+        &["over {}, more than grain of 30 degrees has on itself", HIGHER_FRICTION],
     ),
     row(
         ("factor-low", Name::Factor),
         of::factor_by_itself,
-        Under(135, 1),
+        Under(135, 100),
         |case| case.line(Name::Factor),
-        &["7.4 gives at least 1.35", LOWER_FACTOR, "for a row of table 7.1 write its product"],
+        &["7.4 gives at least {}", LOWER_FACTOR, "for a row of table 7.1 write its product"],
     ),
     row(
         ("narrow", Name::Diameter),
         |case| Some((case.width(), 1)),
         Under(1000, 1),
         of::width_seen,
-        &["under 1000 mm", NARROWER, SLIP],
+        &["under {} mm", NARROWER, SLIP],
     ),
     row(
         ("slender", Name::Diameter),
         |case| Some((case.silo.height(), case.width())),
         Over(6, 1),
         of::shape_seen,
-        &["over 6 times as high as wide", NARROWER, SLIP],
+        &["over {} times as high as wide", NARROWER, SLIP],
     ),
     row(
         ("low", Name::Strakes),
         |case| Some((case.silo.height(), case.width())),
         Under(1, 10),
         of::shape_seen,
-        &["under a tenth as high as wide", LOWER_WALL, SLIP],
+        &["under {} times as high as wide", LOWER_WALL, SLIP],
     ),
     row(
         ("strakes-low", Name::Strakes),
         |case| Some((case.strakes().1, 1)),
         Under(500, 1),
         |case| format!("the highest strake is {} mm", case.strakes().1),
-        &["under 500 mm", LOWER_WALL, SLIP],
+        &["under {} mm", LOWER_WALL, SLIP],
     ),
     row(
         ("strakes-unequal", Name::Strakes),
         |case| Some((case.strakes().1, case.strakes().0)),
         Over(7, 1),
         |case| format!("strakes of {} and {} mm", case.strakes().0, case.strakes().1),
-        &["one over 7 times the other", LOWER_WALL, SLIP],
+        &["one over {} times the other", LOWER_WALL, SLIP],
     ),
     row(
         ("one-strake", Name::Strakes),
@@ -244,7 +267,7 @@ const DOUBTS: [Row; 31] = [
         Over(7, 5),
         of::first_strake_seen,
         &[
-            "over 1.4 times as high as the last",
+            "over {} times as high as the last",
             "top first is due, else each has another's load",
             "were they listed bottom first?",
         ],
@@ -254,7 +277,7 @@ const DOUBTS: [Row; 31] = [
         |case| case.hopper((case.silo.hopper_height.into(), case.silo.wall_height())),
         Over(2, 1),
         of::hopper_seen,
-        &["over twice as high as the wall", "is a strake or the hopper a slip of ten?"],
+        &["over {} times as high as the wall", "is a strake or the hopper a slip of ten?"],
     ),
     row(
         ("hopper-steep", Name::HopperHeight),
@@ -262,7 +285,7 @@ const DOUBTS: [Row; 31] = [
         Over(4, 1),
         of::hopper_seen,
         &[
-            "over 4 times as high as its run",
+            "over {} times as high as its run",
             "the steeper, the lower P_n2 at the outlet (5.17)",
             SLIP,
         ],
@@ -273,7 +296,7 @@ const DOUBTS: [Row; 31] = [
         Under(7, 10),
         of::hopper_seen,
         &[
-            "under 0.7 times as high as its run, 35 degrees, where grain may stay lying",
+            "under {} times as high as its run, 35 degrees, where grain may stay lying",
             "was its angle measured from the vertical?",
         ],
     ),
@@ -282,28 +305,28 @@ const DOUBTS: [Row; 31] = [
         |case| case.hopper((case.silo.hopper_height.min(case.silo.hopper_run).into(), 1)),
         Under(100, 1),
         of::hopper_seen,
-        &["under 100 mm", UNIT],
+        &["under {} mm", UNIT],
     ),
     row(
         ("outlet-small", Name::HopperRun),
         |case| case.hopper((case.silo.outlet_width().into(), 1)),
         Under(100, 1),
         |case| format!("the outlet is {} mm wide", case.silo.outlet_width()),
-        &["under 100 mm", "were cm or m meant, or is the run too long?"],
+        &["under {} mm", "were cm or m meant, or is the run too long?"],
     ),
     row(
         ("filling-eccentricity-small", Name::FillingEccentricity),
         |case| of::eccentricity(case.silo.filling_eccentricity),
         Under(10, 1),
         |case| case.line(Name::FillingEccentricity),
-        &["under 10 mm", "the smaller, the lower p_p (5.25)", UNIT],
+        &["under {} mm", "the smaller, the lower p_p (5.25)", UNIT],
     ),
     row(
         ("outlet-eccentricity-small", Name::OutletEccentricity),
         |case| of::eccentricity(case.silo.outlet_eccentricity),
         Under(10, 1),
         |case| case.line(Name::OutletEccentricity),
-        &["under 10 mm", "the smaller, the lower p_p (5.25)", UNIT],
+        &["under {} mm", "the smaller, the lower p_p (5.25)", UNIT],
     ),
     row(
         ("depths-end-early", Name::Depths),
@@ -311,7 +334,7 @@ const DOUBTS: [Row; 31] = [
         Under(1, 2),
         of::last_depth_seen,
         &[
-            "above the middle of the wall, and loads are greatest at its foot",
+            "above {} of the height of the wall, and loads are greatest at its foot",
             "write depths = strake edges",
         ],
     ),
@@ -324,16 +347,9 @@ pub fn doubts(silo: &Description, origin: &Origin) -> Vec<Doubt> {
     let doubt = |row: &Row| Doubt {
         code: row.code,
         name: line_of(row.name, silo),
-        words: format!("{}: {}", (row.seen)(case), sentence(row.reasons)),
+        words: format!("{}: {}", (row.seen)(case), row.sentence()),
     };
     DOUBTS.iter().filter(passed).map(doubt).collect()
-}
-
-/// Parts of a sentence, of which the last may be a question.
-fn sentence(parts: &[&str]) -> String {
-    let sentence = parts.join("; ");
-    let point = if sentence.ends_with('?') { "" } else { "." };
-    sentence + point
 }
 
 /// The codes of all doubts that there are.

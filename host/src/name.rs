@@ -439,7 +439,7 @@ pub fn meant(text: &str) -> (Option<Elsewhere>, Vec<Name>) {
 
 /// A word for nothing, or for the middle.
 pub fn is_none(text: &str) -> bool {
-    const WORDS: [&str; 25] = [
+    const WORDS: [&str; 28] = [
         "brim",
         "full",
         "level",
@@ -459,6 +459,9 @@ pub fn is_none(text: &str) -> bool {
         "axis",
         "on axis",
         "on the axis",
+        "axial",
+        "axially",
+        "concentric",
         "aucun",
         "aucune",
         "non",
@@ -468,6 +471,13 @@ pub fn is_none(text: &str) -> bool {
     ];
     let plain = plain(text);
     WORDS.contains(&&*plain) || plain.starts_with("centr")
+}
+
+/// A word for a value that is left out.
+pub fn is_blank(text: &str) -> bool {
+    const WORDS: [&str; 8] =
+        ["blank", "empty", "none", "unknown", "left blank", "vide", "aucun", "inconnu"];
+    WORDS.contains(&&*plain(text))
 }
 
 /// Every name, those of the order last.

@@ -1,5 +1,6 @@
 //! Numbers as a person writes them: decimals read exactly, units turned into those of a sheet.
 
+use crate::fraction::Fraction;
 use crate::inches;
 use crate::message::{Mend, Number, Reading, Slip};
 
@@ -43,7 +44,7 @@ impl Decimal {
 
     /// Of a mass in so many millionths of a kg, N rounded up, times so many hundredths.
     fn weight(self, millionths: u64, hundredths: u64) -> u64 {
-        let weighed = u128::from(self.digits) * u128::from(millionths) * 981;
+        let weighed = u128::from(self.digits) * u128::from(millionths) * u128::from(GRAVITY);
         let raised = weighed.saturating_mul(hundredths.into());
         raised.div_ceil(10_u128.pow(self.places + 10)).try_into().unwrap_or(u64::MAX)
     }
@@ -142,21 +143,34 @@ enum Instead {
 }
 
 /// Units of mass per volume, in millionths of a kg/m3, rounded up.
-const MASSES: [(&str, u64); 10] = [
+const MASSES: [(&str, u64); 14] = [
     ("kg/m3", 1_000_000),
     ("kg/hl", 10_000_000),
     ("t/m3", 1_000_000_000),
     ("g/cm3", 1_000_000_000),
     ("kg/dm3", 1_000_000_000),
     ("kg/l", 1_000_000_000),
+    ("g/l", 1_000_000),
     ("lb/ft3", 16_018_464),
     ("lbs/ft3", 16_018_464),
     ("pcf", 16_018_464),
     ("lb/bu", 12_871_860),
+    ("lbs/bu", 12_871_860),
+    ("lb/bushel", 12_871_860),
+    ("lbs/bushel", 12_871_860),
 ];
+
+/// m/s2, hundredths
+pub const GRAVITY: u32 = 981;
 
 /// Hundredths by which a measured mean weight is raised at least (7.3.1).
 const RAISED: u64 = 115;
+
+/// A measured mean weight, raised as 7.3.1 has it.
+pub fn raised(weight: u64) -> u64 {
+    let raised = u128::from(weight) * u128::from(RAISED);
+    raised.div_ceil(100).try_into().unwrap_or(u64::MAX)
+}
 
 const LENGTH_UNITS: &[(&str, u32)] = &[("mm", 0), ("cm", 1), ("m", 3)];
 
@@ -281,7 +295,7 @@ impl Measure {
         known.map(|(_, power)| *power)
     }
 
-    /// A length in feet and inches, where it is one: whole mm, or the mm beside it.
+    /// A length in feet and inches, where it is one: whole mm, or the mm beside it, the nearer first.
     pub fn in_inches(&self, text: &str) -> Option<Result<u64, Slip>> {
         let is_length = self.quantity.is_length();
         let exact = Some(text).filter(|_| is_length).and_then(inches::millimetres)?;
@@ -293,7 +307,11 @@ impl Measure {
             true => Number::Inches(exact.about(2)),
             false => Number::TooLarge((self.show)(self.most)),
         };
-        Some(Err(Slip::new(slip).at(text).with(self.mends([below, below.saturating_add(1)]))))
+        let mut mends = self.beside(below);
+        if exact.times(Fraction::whole(2_u128)).down() > 2 * exact.down() {
+            mends.reverse();
+        }
+        Some(Err(Slip::new(slip).at(text).with(mends)))
     }
 
     /// The unit at the front, and what follows it; where the quantity has no unit, nothing and all of it.
@@ -373,11 +391,9 @@ impl Measure {
         self.beside((100.0 * degrees.to_radians().tan()).floor().clamp(0.0, 1e6) as u64)
     }
 
-    /// A weight, N/m³, that is said to be a mean or measured: raised as 7.3.1 has it.
+    /// A weight, N/m³, that is said to be a mean or measured.
     pub fn raised(&self, weight: u64) -> Slip {
-        let raised = u128::from(weight) * u128::from(RAISED);
-        let raised = raised.div_ceil(100).try_into().unwrap_or(u64::MAX);
-        Slip::new(Number::MeanWeight).with(self.mends([raised]))
+        Slip::new(Number::MeanWeight).with(self.mends([raised(weight)]))
     }
 
     /// Another quantity in place of the one that is due, and what it would be here.

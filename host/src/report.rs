@@ -6,7 +6,7 @@ use crate::description::{Description, Section};
 use crate::discharge::{Discharge, Shape};
 use crate::doubt::{self, Doubt};
 use crate::library::{Loads, Refusal, ROW};
-use crate::number::{hundredths, tenths};
+use crate::number::{hundredths, raised, tenths};
 use crate::units::Units;
 
 /// The program that wrote an output, and its rules.
@@ -244,7 +244,7 @@ fn own_weight(silo: &Description) -> String {
     format!(
         "Own weight: table 7.1's are upper limits (7.2, 1); if {weight} N/m3 is a measured mean, it needs at least {} N/m3 (times 1.15, \
          7.3.1, 3).",
-        (115 * weight).div_ceil(100)
+        raised(weight)
     )
 }
 

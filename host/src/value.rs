@@ -5,7 +5,7 @@ mod list;
 pub use list::{list, pair, plain_list};
 
 use crate::likely;
-use crate::message::{Mend, Number, Slip, What};
+use crate::message::{Mend, Number, Reading, Slip, What};
 use crate::name;
 use crate::number::{in_thousands, Decimal, Measure, Quantity};
 
@@ -106,11 +106,36 @@ pub fn quantity(value: &str, measure: &Measure) -> Result<u64, Slip> {
         [Token::Number(number), Token::Word(unit)] => {
             one(number, Some(unit), measure).map_err(|slip| with_likely(slip, value, measure))
         }
+        [Token::Number(_), Token::Number(to), rest @ ..] if to.starts_with('-') => {
+            Err(range(&to[1..], rest, measure).at(value))
+        }
+        [Token::Number(_), Token::Word(to), Token::Number(second), rest @ ..]
+            if RANGE.contains(to) =>
+        {
+            Err(range(second, rest, measure).at(value))
+        }
         [Token::Number(first), Token::Number(second), rest @ ..] => {
             Err(wrong(Number::TwoNumbers).with(joined(first, second, rest)))
         }
         [Token::Number(_), ..] => Err(meant(wrong(Number::NotOneNumber), value, measure)),
         _ => Err(in_words(value, measure)),
+    }
+}
+
+/// Words between the ends of a range.
+const RANGE: [&str; 6] = ["-", "–", "..", "to", "a", "à"];
+
+/// Of a range of weights the upper end, of a range of masses what that weighs; of no other is it known which end is careful.
+fn range(upper: &str, rest: &[Token], measure: &Measure) -> Slip {
+    let slip = Slip::new(Number::Range);
+    let [Token::Word(unit)] = rest else { return slip };
+    if measure.quantity != Quantity::Weight {
+        return slip;
+    }
+    match one(upper, Some(unit), measure) {
+        Ok(weight) => slip.with(measure.mends([weight])),
+        Err(other) if matches!(*other.what, What::Number(Number::Mass(_))) => other,
+        Err(_) => slip,
     }
 }
 
@@ -190,6 +215,9 @@ fn in_words(value: &str, measure: &Measure) -> Slip {
     if let Some(slip) = angle.and_then(|angle| measure.instead(angle, "deg")) {
         return slip;
     }
+    if measure.quantity == Quantity::Factor && name::is_blank(value) {
+        return Slip::new(Number::Blank).with([Mend::plain("")]);
+    }
     let is_0 = measure.limits.0 == 0 && name::is_none(value);
     let slip = Slip::new(Number::NotANumber(Some(measure.quantity))).at(value);
     match is_0 {
@@ -226,7 +254,9 @@ fn one(number: &str, unit: Option<&str>, measure: &Measure) -> Result<u64, Slip>
         return read;
     }
     // a comma, a sign or a letter is at fault without its unit
-    let decimal = Decimal::read(number).map_err(|slip| slip.between("", &unit_behind))?;
+    let read =
+        Decimal::read(number).map_err(|slip| not_thousands(number, unit, measure).unwrap_or(slip));
+    let decimal = read.map_err(|slip| slip.between("", &unit_behind))?;
     if let Some(slip) = unit.and_then(|unit| measure.instead(decimal, unit)) {
         return Err(slip.at(written));
     }
@@ -236,6 +266,16 @@ fn one(number: &str, unit: Option<&str>, measure: &Measure) -> Result<u64, Slip>
         true => slip.at(written),
         false => slip,
     })
+}
+
+/// `9,000 kN/m3`: a decimal, where thousands of that unit are outside the limits.
+fn not_thousands(number: &str, unit: Option<&str>, measure: &Measure) -> Option<Slip> {
+    let (before, after) = number.split_once(',').filter(|(_, after)| *after == "000")?;
+    let is_inside = |number: &str| one(number, unit, measure).is_ok_and(|n| measure.is_inside(n));
+    let decimal = format!("{before}.{after}");
+    let meant = !is_inside(&format!("{before}{after}")) && is_inside(&decimal);
+    let mend = Mend::new(decimal, Reading::Decimal);
+    meant.then(|| Slip::new(Number::Comma(2)).at(number).with([mend]))
 }
 
 /// The mends of a part of a value as whole values; the part is a slice of the value.

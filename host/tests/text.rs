@@ -9,6 +9,7 @@ use silo::description::{Description, Product, Section};
 use silo::message::Message;
 use silo::text;
 use silo::units::Units;
+use std::time::{Duration, Instant};
 
 /// Lines that differ from a readable silo.
 const BAD: &[&[(&str, &str)]] = &[
@@ -346,6 +347,23 @@ const BAD: &[&[(&str, &str)]] = &[
     &[("weight", "780 kg/m3 wet")],
     &[("weight", "7.5 kN/m3 (loose)")],
     &[("factor", "1.2 (filling)")],
+    &[("factor", "blank")],
+    &[("factor", "unknown")],
+    &[("diameter", "16 ft")],
+    &[("headroom", "16 in")],
+    &[("filling eccentricity", "4 in")],
+    &[("outlet eccentricity", "axial")],
+    &[("diameter", "-"), ("sides", "4 by 6 m")],
+    &[("diameter", "-"), ("sides", "4000 / 6000 mm")],
+    &[("strakes", "8 rings of 2000 mm")],
+    &[("strakes", "2,0; 2,0; 1,5 m")],
+    &[("weight", "9,000 kN/m3")],
+    &[("weight", "9,000 N/m3")],
+    &[("weight", "76-80 kg/hl")],
+    &[("weight", "8 to 9 kN/m3")],
+    &[("diameter", "5 - 6 m")],
+    &[("weight", "780 g/l")],
+    &[("weight", "60 lb/bushel")],
     &[("headroom", "15.4 m of grain")],
     &[("headroom", "approx. 300 mm")],
     &[("diameter", "900 m 50")],
@@ -447,21 +465,36 @@ fn fixes_mend_what_the_message_is_about() {
     stored("host/tests/golden/fixes.txt", page.as_bytes());
 }
 
-/// A long text is answered at once, whatever it says: many lines at fault, and long lines of many words.
-#[test]
-fn long_texts_are_answered_at_once() {
-    let lines = ["a=\n", "=\n", "a\n", "diamtr = 5 m\n", "diameter = 5 m\n", "\u{200b}\n"];
-    let lines = lines.iter().map(|line| line.repeat((1 << 20) / line.len()));
-    let words = ["a ", "diameter: ", ":", "diameter = 1 / ", "strakes = 1,", "depths = 0 - ", "m"];
-    let words = words.iter().map(|word| word.repeat(200_000 / word.len()));
-    let [before, behind] = [" ".repeat(20_000), " ".repeat(20_000)];
-    let spaced = format!("diameter = 5{before}/{behind}m");
-    for text in lines.chain(words).chain([spaced]) {
-        let start = std::time::Instant::now();
+/// How long a text is looked at, the least of some runs.
+fn time_of(text: &str) -> Duration {
+    let runs = (0..3).map(|_| {
+        let start = Instant::now();
         let outcome = commands::check("long.silo", text.as_bytes(), Format::Json);
-        let shown: String = text.chars().take(20).collect();
-        assert_eq!(outcome.status, 2, "{shown}");
-        assert!(start.elapsed().as_secs() < 5, "{shown}: {:?}", start.elapsed());
+        assert_eq!(outcome.status, 2, "{:.20}", text);
+        start.elapsed()
+    });
+    runs.min().unwrap_or_default()
+}
+
+/// A text that is 16 times as long takes no more than 64 times as long, whatever it says: many lines at fault, and long lines of many
+/// words. It would be 256 times with each place looked at once for every other.
+#[test]
+fn long_texts_take_no_longer_than_they_are() {
+    const LINES: [&str; 6] =
+        ["a=\n", "=\n", "a\n", "diamtr = 5 m\n", "diameter = 5 m\n", "\u{200b}\n"];
+    const WORDS: [&str; 7] =
+        ["a ", "diameter: ", ":", "diameter = 1 / ", "strakes = 1,", "depths = 0 - ", "m"];
+    let repeated = |part: &str, bytes: usize| part.repeat(bytes / part.len());
+    let spaced = |bytes: usize| {
+        let spaces = " ".repeat(bytes / 2);
+        format!("diameter = 5{spaces}/{spaces}m")
+    };
+    let pairs = LINES.map(|line| [65_536, 1 << 20].map(|bytes| repeated(line, bytes)));
+    let words = WORDS.map(|word| [12_500, 200_000].map(|bytes| repeated(word, bytes)));
+    for [short, long] in pairs.into_iter().chain(words).chain([[4_000, 64_000].map(spaced)]) {
+        let [short_time, time] = [&short, &long].map(|text| time_of(text));
+        let most = 64 * short_time.max(Duration::from_millis(1));
+        assert!(time <= most, "{:.20}: {time:?}, {short_time:?} for a sixteenth", long);
     }
 }
 

@@ -13,7 +13,12 @@ pub struct Case<'a> {
     pub origin: &'a Origin,
 }
 
-/// A number of a product, N/m³ or hundredths.
+/// A number of a product, N/m³ or hundredths, over what it counts by.
+fn ratio(product: &Product, name: Name) -> Ratio {
+    (number(product, name), if name == Name::Weight { 1 } else { 100 })
+}
+
+/// The same alone.
 fn number(product: &Product, name: Name) -> u64 {
     match name {
         Name::Weight => product.weight.into(),
@@ -58,7 +63,7 @@ impl Case<'_> {
 
     /// A number of a product that has no name.
     pub fn without_product(&self, name: Name) -> Option<Ratio> {
-        Some((number(&self.silo.product, name), 1)).filter(|_| self.origin.row.is_none())
+        Some(ratio(&self.silo.product, name)).filter(|_| self.origin.row.is_none())
     }
 
     /// The text's number beside table 7.1's.
@@ -115,7 +120,7 @@ pub fn friction_without_wall(case: &Case) -> Option<Ratio> {
 /// Where table 7.1 has none to measure it by.
 pub fn friction_by_itself(case: &Case) -> Option<Ratio> {
     let known = case.origin.row.is_some() && is_of_table(case);
-    Some((number(&case.silo.product, Name::Friction), 1)).filter(|_| !known)
+    Some(ratio(&case.silo.product, Name::Friction)).filter(|_| !known)
 }
 
 /// Of a product that has no name, unless it is blank, or weight, ratio and factor are those of a row.

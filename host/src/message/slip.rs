@@ -68,6 +68,10 @@ pub enum Number {
     NotANumber(Option<Quantity>),
     TwoNumbers,
     NotOneNumber,
+    /// From one number to another.
+    Range,
+    /// A word for a factor that is left blank.
+    Blank,
     Negative,
     TooManyDigits,
     /// A comma between so many groups of digits.
@@ -111,6 +115,8 @@ impl Number {
             Number::NotANumber(_) => "not-a-number",
             Number::TwoNumbers => "two-numbers",
             Number::NotOneNumber => "not-one-number",
+            Number::Range => "range",
+            Number::Blank => "blank",
             Number::Negative => "negative",
             Number::TooManyDigits => "too-many-digits",
             Number::Comma(_) => "comma",

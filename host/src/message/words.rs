@@ -153,6 +153,7 @@ fn number(what: &Number, mends: &[Mend]) -> String {
         Number::NoUnit(units) if mends.is_empty() => {
             format!("no unit; its units are {}", one_of(units))
         }
+        Number::Blank => found(what),
         Number::Mass(newtons) => mass(*newtons, mends),
         Number::MeanWeight => format!("a mean; {}", upper_weight(mends)),
         what => found(what) + &write(mends),
@@ -182,6 +183,8 @@ fn found(what: &Number) -> String {
         Number::Angle(None) => "an angle; a friction is its tangent",
         Number::NotANumber(None) => "not a number",
         Number::NotOneNumber => "not one number with its unit",
+        Number::Range => "a range where one number is due",
+        Number::Blank => "a blank factor has nothing behind the sign",
         Number::Negative => "negative; a sheet holds numbers from 0 up",
         Number::TooManyDigits => "more digits than a sheet holds",
         Number::Comma(_) => "a comma between digits",
@@ -250,7 +253,10 @@ fn list(what: &List, mends: &[Mend]) -> String {
         List::NotACount(count) => format!("{count} is not a count"),
         List::TooMany(most) => format!("more than {most} numbers, which a sheet cannot hold"),
         List::Empty => "a list of no numbers".to_string(),
-        List::NotTwoSides => "two sides are due, such as 4000 x 6000 mm".to_string(),
+        List::NotTwoSides if mends.is_empty() => {
+            "two sides are due, such as 4000 x 6000 mm".to_string()
+        }
+        List::NotTwoSides => format!("two sides are due{}", write(mends)),
     }
 }
 
@@ -393,6 +399,13 @@ fn missing(names: &[Name]) -> String {
     let add = match names {
         [Name::Friction] => OWN_FRICTION.to_string(),
         [Name::Factor] => format!("add a line factor = {OWN_FACTOR}"),
+        [Name::Weight] => {
+            format!("add a line weight = {OWN_WEIGHT}{}", limits(Name::Weight.limits()))
+        }
+        [Name::Ratio] => format!("add a line ratio = {OWN_RATIO}{}", limits(Name::Ratio.limits())),
+        [Name::Strakes] => {
+            format!("add a line strakes = {HEIGHTS}{}", limits(Name::Strakes.limits()))
+        }
         [name @ (Name::FillingEccentricity | Name::OutletEccentricity)] => {
             let distance = "with the distance from the axis, 0 mm if it is on the axis";
             format!("add a line {} = {distance}{}", name.word(), limits(name.limits()))
@@ -409,6 +422,11 @@ fn missing(names: &[Name]) -> String {
     format!("no line for {due}; {add}")
 }
 
+const OWN_WEIGHT: &str =
+    "with the upper limit of this grain's weight (7.2), or product = with its name in place of the four numbers";
+const OWN_RATIO: &str =
+    "with your own value for this grain, or product = with its name in place of the four numbers";
+const HEIGHTS: &str = "with the height of each, top first, and COUNT x HEIGHT for equal ones";
 const OWN_FACTOR: &str =
     "left blank, which is taken as 1.55 (7.4 at 40 degrees), or with the product's own, 1.00 to 2.00";
 const OWN_FRICTION: &str =

@@ -129,6 +129,7 @@ fn misplaced(value: &str, measure: &Measure) -> Option<Slip> {
             first(b, a, unit, List::HeightFirst)
         }
         [Token::Number(a), Token::Word(of), Token::Number(b), Token::Word(unit)]
+        | [Token::Number(a), Token::Word(of), Token::Word(_), Token::Number(b), Token::Word(unit)]
             if !measure.is_unit(of) && is_count(a) && is_height(b, unit) =>
         {
             first(a, b, unit, List::NotHeights)
@@ -161,8 +162,19 @@ pub fn list(value: &str, measure: &Measure, most: usize) -> Result<Vec<u64>, Sli
             _ => false,
         };
         let other = looked_at.then(|| likely::other_list(value, measure, most)).flatten();
-        other.unwrap_or(slip)
+        other.unwrap_or_else(|| match decimals(value) {
+            Some(mended) if plain_list(&mended, measure, most).is_ok() => {
+                slip.with([Mend::plain(mended)])
+            }
+            _ => slip,
+        })
     })
+}
+
+/// `2,0; 1,5 m`: commas inside the numbers, and semicolons between them.
+fn decimals(value: &str) -> Option<String> {
+    let mended = value.replace(',', ".").replace(';', ",");
+    Some(mended).filter(|_| value.contains(',') && value.contains(';'))
 }
 
 /// The same, as it stands.
@@ -192,8 +204,24 @@ pub fn plain_list(value: &str, measure: &Measure, most: usize) -> Result<Vec<u64
     Ok(numbers)
 }
 
-/// Two sides, `A x B UNIT`.
+/// Two sides, `A x B UNIT`, or what was meant by them.
 pub fn pair(value: &str, measure: &Measure) -> Result<(u64, u64), Slip> {
+    const BETWEEN: [&str; 5] = [" by ", " par ", "/", " and ", " et "];
+    plain_pair(value, measure).map_err(|slip| {
+        let mut mends = BETWEEN.iter().filter_map(|between| {
+            let (a, b) = value.split_once(between)?;
+            let mended = format!("{} x {}", a.trim(), b.trim());
+            plain_pair(&mended, measure).is_ok().then(|| Mend::plain(mended))
+        });
+        match mends.next() {
+            Some(mend) => Slip::new(List::NotTwoSides).with([mend]),
+            None => slip,
+        }
+    })
+}
+
+/// The same, as it stands.
+fn plain_pair(value: &str, measure: &Measure) -> Result<(u64, u64), Slip> {
     let apart = |token| if token == Token::Times { Token::Separator } else { token };
     if let Some(slip) = apostrophes(value) {
         return Err(slip);
