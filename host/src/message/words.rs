@@ -396,39 +396,47 @@ const A_LINE: &str = "a line is name = value unit, such as diameter = 5000 mm";
 /// No line for any of some names.
 fn missing(names: &[Name]) -> String {
     let due = words_of(names, " or ");
-    let add = match names {
-        [Name::Friction] => OWN_FRICTION.to_string(),
-        [Name::Factor] => format!("add a line factor = {OWN_FACTOR}"),
-        [Name::Weight] => {
-            format!("add a line weight = {OWN_WEIGHT}{}", limits(Name::Weight.limits()))
-        }
-        [Name::Ratio] => format!("add a line ratio = {OWN_RATIO}{}", limits(Name::Ratio.limits())),
-        [Name::Strakes] => {
-            format!("add a line strakes = {HEIGHTS}{}", limits(Name::Strakes.limits()))
-        }
-        [name @ (Name::FillingEccentricity | Name::OutletEccentricity)] => {
-            let distance = "with the distance from the axis, 0 mm if it is on the axis";
-            format!("add a line {} = {distance}{}", name.word(), limits(name.limits()))
-        }
-        names => {
+    let own = match names {
+        [name] => own(*name),
+        _ => None,
+    };
+    let limits = match names {
+        [name] if !name.limits().is_empty() && *name != Name::Factor => limits(name.limits()),
+        _ => String::new(),
+    };
+    let add = match own {
+        _ if names == [Name::Friction] => OWN_FRICTION.to_string(),
+        Some(own) => format!("add a line {due} = {own}{limits}"),
+        None => {
             let examples: Vec<&str> = names.iter().map(|name| name.example()).collect();
-            let limits = match names {
-                [name] if !name.limits().is_empty() => limits(name.limits()),
-                _ => String::new(),
-            };
             format!("add a line such as {}{limits}", examples.join(" or "))
         }
     };
     format!("no line for {due}; {add}")
 }
 
-const OWN_WEIGHT: &str =
-    "with the upper limit of this grain's weight (7.2), or product = with its name in place of the four numbers";
-const OWN_RATIO: &str =
-    "with your own value for this grain, or product = with its name in place of the four numbers";
-const HEIGHTS: &str = "with the height of each, top first, and COUNT x HEIGHT for equal ones";
-const OWN_FACTOR: &str =
-    "left blank, which is taken as 1.55 (7.4 at 40 degrees), or with the product's own, 1.00 to 2.00";
+/// What a line has behind its sign, where an example would be a number of anybody's.
+fn own(name: Name) -> Option<&'static str> {
+    match name {
+        Name::Weight => Some(
+            "with the upper limit of this grain's weight (7.2), or product = with its name in place of the four numbers",
+        ),
+        Name::Ratio => Some(
+            "with your own value for this grain, or product = with its name in place of the four numbers",
+        ),
+        Name::Factor => Some(
+            "left blank, which is taken as 1.55 (7.4 at 40 degrees), or with the product's own, 1.00 to 2.00",
+        ),
+        Name::Strakes => {
+            Some("with the height of each, top first, and COUNT x HEIGHT for equal ones")
+        }
+        Name::FillingEccentricity | Name::OutletEccentricity => {
+            Some("with the distance from the axis, 0 mm if it is on the axis")
+        }
+        _ => None,
+    }
+}
+
 const OWN_FRICTION: &str =
     "add a line friction = with your own value, 0.10 to 1.00, for this grain on this wall";
 
