@@ -105,7 +105,7 @@ pub fn loads(silo: &Description) -> Vec<Made> {
     [&WALL, bottom].concat()
 }
 
-/// Digits of q behind the point: at the greatest P they make a pressure to 0.2 Pa.
+/// Digits behind the point of q, with which the greatest P makes a pressure to 0.2 Pa, and of a hopper's sin^2.
 pub const Q_DIGITS: usize = 8;
 
 /// The quantities of a filling load.

@@ -5,7 +5,7 @@ use crate::description::Product;
 use crate::json;
 use crate::library::Refusal;
 use crate::message::{Choice, Mend, Slip};
-use crate::name::{close, plain, Name};
+use crate::name::{near, plain, words, Name};
 use crate::number::hundredths;
 use crate::report::PROGRAM;
 
@@ -54,13 +54,27 @@ pub fn row(text: &str) -> Result<u32, Slip> {
     let called = |row: &Row| row.name == written || row.others.contains(&&*written);
     PRODUCTS.iter().position(called).map(|row| row as u32).ok_or_else(|| {
         let names = PRODUCTS.iter().map(|row| row.name);
-        let others = PRODUCTS.iter().flat_map(|row| row.others).copied();
-        let near = match &close(&written, names.clone())[..] {
-            [] => close(&written, others),
-            near => near.to_vec(),
-        };
-        Slip::new(Choice::Product(names.collect())).with(near.into_iter().map(Mend::plain))
+        let near = likely(&written).into_iter().map(Mend::plain);
+        Slip::new(Choice::Product(names.collect())).with(near)
     })
+}
+
+/// Products that a name is near to, or the one that it has words beside that leave it as it is. Any other word or number may make it
+/// heavier.
+fn likely(written: &str) -> Vec<&'static str> {
+    const LEAVES: [&str; 14] = [
+        "grain", "grains", "seed", "seeds", "kernel", "kernels", "in", "bulk", "winter", "spring",
+        "soft", "en", "vrac", "tendre",
+    ];
+    let names = PRODUCTS.iter().map(|row| row.name);
+    let others = PRODUCTS.iter().flat_map(|row| row.others).copied();
+    let left: Vec<&str> = words(written).filter(|word| !LEAVES.contains(word)).collect();
+    let left = left.join(" ");
+    match &near(&left, names.clone())[..] {
+        _ if left.contains(|c: char| c.is_ascii_digit()) => Vec::new(),
+        [] => near(&left, others),
+        near => near.to_vec(),
+    }
 }
 
 /// A name of a product or of a wall.
@@ -85,17 +99,24 @@ pub enum Wall {
 const CORRUGATED: [&str; 4] = ["corrugated", "galvani", "bolted", "profiled"];
 /// The same in French, as `plain` has them.
 const FRENCH: [&str; 5] = ["ondul", "nervur", "boulonn", "acier galva", "tole galva"];
+/// Words beside these with which the wall is another, or may be.
+const OTHERWISE: [&str; 14] = [
+    "not", "no", "non", "pas", "without", "sans", "smooth", "lisse", "plain", "concrete", "beton",
+    "inside", "lined", "liner",
+];
 
 impl Wall {
     pub fn read(text: &str) -> Result<Wall, Slip> {
         let written = plain(text);
+        let words: Vec<&str> = words(&written).collect();
+        let spaced = format!(" {}", words.join(" "));
+        let otherwise = words.iter().any(|word| OTHERWISE.contains(word));
+        let says = |stem: &&str| !otherwise && spaced.contains(&format!(" {stem}"));
         match &*written {
             "steel" | "smooth steel" | "acier" | "acier lisse" => Ok(Wall::Steel),
             "concrete" | "beton" | "beton arme" => Ok(Wall::Concrete),
-            _ if FRENCH.iter().any(|word| written.contains(word)) => {
-                Ok(Wall::Corrugated("corrugated wall".to_string()))
-            }
-            _ if CORRUGATED.iter().any(|word| written.contains(word)) => {
+            _ if FRENCH.iter().any(says) => Ok(Wall::Corrugated("corrugated wall".to_string())),
+            _ if CORRUGATED.iter().any(says) => {
                 let noun = ["steel", "wall"].iter().any(|noun| written.ends_with(noun));
                 Ok(Wall::Corrugated(written + if noun { "" } else { " wall" }))
             }
@@ -108,12 +129,15 @@ impl Wall {
         const LIKE_STEEL: [&str; 6] = ["mild", "carbon", "plain", "welded", "structural", "wall"];
         const LIKE_CONCRETE: [&str; 6] =
             ["reinforced", "plain", "cast", "precast", "structural", "wall"];
-        let words: Vec<&str> = written.split([' ', ',', '-']).filter(|w| !w.is_empty()).collect();
+        let words: Vec<&str> = words(written).collect();
         let is_like = |wall: &str, like: &[&str]| {
             words.contains(&wall) && words.iter().all(|word| *word == wall || like.contains(word))
         };
         if let [word] = words[..] {
-            return close(word, [WALLS[0], WALLS[1], CORRUGATED[0]].into_iter()).pop();
+            // uncorrugated is near to corrugated
+            return near(word, [WALLS[0], WALLS[1], CORRUGATED[0]].into_iter())
+                .pop()
+                .filter(|_| !word.starts_with("un"));
         }
         let [steel, concrete] = WALLS;
         match is_like(steel, &LIKE_STEEL) {

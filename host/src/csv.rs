@@ -243,45 +243,54 @@ fn band(patch: &Patch, rows: Rows) -> String {
 /// Rows of a name, a value and a unit: the order's own lines and the sheet's numbers.
 fn description(report: &Report, rows: Rows) -> String {
     let (silo, dialect) = (report.silo, rows.dialect);
-    let mut page = String::new();
-    let mut add = |name: &str, value: String, unit: &str| page += &rows.fact(name, value, unit);
-    add("program", dialect.text(PROGRAM), "");
-    add("file", dialect.text(report.file), "");
-    for (name, text) in report.labels {
-        add(name, dialect.text(text), "");
-    }
-    match silo.section {
-        Section::Circle(d) => add("diameter", d.to_string(), "mm"),
-        Section::Rectangle(a, b) => {
-            add("side a", a.to_string(), "mm");
-            add("side b", b.to_string(), "mm");
-        }
-    }
-    let product = &silo.product;
-    let ratio = |number: u16| dialect.number(&hundredths(number.into()));
-    add("product", dialect.text(&report.origin.shown(product)), "");
-    add("weight", product.weight.to_string(), "N/m3");
-    add("ratio", ratio(product.ratio), "");
-    add("friction", ratio(product.friction), "");
-    match product.factor {
-        0 => {
-            add("factor", ratio(product.factor_used()), &format!("for a blank one: {BLANK_ANGLE}"));
-            add("factor on the sheet", ratio(product.factor), "blank");
-        }
-        factor => add("factor", ratio(factor), ""),
-    }
-    add("filling eccentricity", silo.filling_eccentricity.to_string(), "mm");
-    add("outlet eccentricity", silo.outlet_eccentricity.to_string(), "mm");
-    add("hopper height", silo.hopper_height.to_string(), "mm");
-    add("hopper run", silo.hopper_run.to_string(), "mm");
-    add("wall height", silo.wall_height().to_string(), "mm");
-    add("strakes", dialect.text(&text::runs(&silo.strakes)), "mm");
-    if silo.headroom > 0 {
-        add("headroom", silo.headroom.to_string(), "mm");
-    }
+    let said = |name: &str, text: &str| rows.fact(name, dialect.text(text), "");
+    let length = |name: &str, number: u64| rows.fact(name, number.to_string(), "mm");
+    let labels: String = report.labels.iter().map(|(name, label)| said(name, label)).collect();
+    let section = match silo.section {
+        Section::Circle(d) => length("diameter", d.into()),
+        Section::Rectangle(a, b) => length("side a", a.into()) + &length("side b", b.into()),
+    };
+    let headroom = Some(silo.headroom).filter(|headroom| *headroom > 0);
     let discharge = report.discharge();
-    add("kind", discharge.shape.word().to_string(), "");
     let fractions = discharge.fractions();
-    page.extend(fractions.iter().map(|(name, value)| rows.exact(name, *value, DIGITS, "")));
-    page
+    let fractions = fractions.iter().map(|(name, value)| rows.exact(name, *value, DIGITS, ""));
+    [
+        said("program", PROGRAM),
+        said("file", report.file),
+        labels,
+        section,
+        product(report, rows),
+        length("filling eccentricity", silo.filling_eccentricity.into()),
+        length("outlet eccentricity", silo.outlet_eccentricity.into()),
+        length("hopper height", silo.hopper_height.into()),
+        length("hopper run", silo.hopper_run.into()),
+        length("wall height", silo.wall_height()),
+        rows.fact("strakes", dialect.text(&text::runs(&silo.strakes)), "mm"),
+        headroom.map_or(String::new(), |headroom| length("headroom", headroom.into())),
+        said("kind", discharge.shape.word()),
+        fractions.collect(),
+    ]
+    .concat()
+}
+
+fn product(report: &Report, rows: Rows) -> String {
+    let (product, dialect) = (&report.silo.product, rows.dialect);
+    let ratio = |name: &str, number: u16, unit: &str| {
+        rows.fact(name, dialect.number(&hundredths(number.into())), unit)
+    };
+    let factor = match product.factor {
+        0 => {
+            ratio("factor", product.factor_used(), &format!("for a blank one: {BLANK_ANGLE}"))
+                + &ratio("factor on the sheet", 0, "blank")
+        }
+        factor => ratio("factor", factor, ""),
+    };
+    [
+        rows.fact("product", dialect.text(&report.origin.shown(product)), ""),
+        rows.fact("weight", product.weight.to_string(), "N/m3"),
+        ratio("ratio", product.ratio, ""),
+        ratio("friction", product.friction, ""),
+        factor,
+    ]
+    .concat()
 }

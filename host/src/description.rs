@@ -60,7 +60,7 @@ impl Section {
 }
 
 /// C0 that the library reads in place of 0, hundredths: equation 7.4 at an internal friction angle of 40°.
-const BLANK_FACTOR: u16 = 155;
+pub const BLANK_FACTOR: u16 = 155;
 
 impl Product {
     /// C0 as it acts, hundredths.

@@ -2,11 +2,11 @@
 
 mod measured;
 
-use crate::catalogue::Origin;
+use crate::catalogue::{Origin, Wall};
 use crate::description::{Description, Section};
 use crate::fraction::Fraction;
 use crate::name::Name;
-use crate::number::hundredths;
+use crate::number::{hundredths, LIGHTEST};
 use measured::{self as of, Case};
 
 /// What is improbable in a silo.
@@ -101,9 +101,8 @@ const LOWER_WALL: &str = "the lower the wall, the lower its loads";
 const SLIP: &str = "is it a slip of ten?";
 const UNIT: &str = "were cm or m meant?";
 
-/// Lengths in mm, weights in N/m³; ratio, friction and factor. Those of a product that the text names are measured by its
-/// row of table 7.1.
-const DOUBTS: [Row; 31] = [
+/// Lengths in mm, weights in N/m³. Numbers of a product that the text names are measured by its row of table 7.1.
+const DOUBTS: [Row; 33] = [
     row(
         ("headroom-high", Name::Headroom),
         of::headroom,
@@ -158,10 +157,17 @@ const DOUBTS: [Row; 31] = [
     ),
     row(
         ("friction-light-on-unnamed-wall", Name::Friction),
-        of::friction_on_unnamed_wall,
+        |case| of::friction_by(case, Wall::Concrete),
         Over(1, 1),
-        of::friction_on_unnamed_wall_seen,
+        |case| of::friction_by_seen(case, Wall::Concrete, "at most"),
         &["no wall is named", HIGHER_FRICTION],
+    ),
+    row(
+        ("friction-light-drag-on-unnamed-wall", Name::Friction),
+        |case| of::friction_by(case, Wall::Steel),
+        Under(1, 1),
+        |case| of::friction_by_seen(case, Wall::Steel, "at least"),
+        &["no wall is named", LOWER_FRICTION],
     ),
     row(
         ("friction-corrugated", Name::Friction),
@@ -180,7 +186,7 @@ const DOUBTS: [Row; 31] = [
     row(
         ("weight-low", Name::Weight),
         |case| case.without_product(Name::Weight),
-        Under(4000, 1),
+        Under(LIGHTEST, 1),
         |case| case.line(Name::Weight),
         &["under {} N/m3, lighter than grain", LOWER_WEIGHT],
     ),
@@ -199,8 +205,18 @@ const DOUBTS: [Row; 31] = [
         &["over {}, and table 7.1 has none over 0.55", HIGHER_RATIO],
     ),
     row(
+        ("friction-corrugated-low", Name::Friction),
+        of::friction_on_corrugated_wall_by_itself,
+        Under(30, 100),
+        |case| case.line(Name::Friction),
+        &[
+            "table 7.1 has none under {}, and a corrugated wall has more than smooth steel",
+            LOWER_FRICTION,
+        ],
+    ),
+    row(
         ("friction-low", Name::Friction),
-        of::friction_without_wall,
+        of::friction_without_product,
         Under(20, 100),
         |case| case.line(Name::Friction),
         &["under {}, and table 7.1 has none under 0.30", LOWER_FRICTION],
@@ -267,7 +283,7 @@ const DOUBTS: [Row; 31] = [
         Over(7, 5),
         of::first_strake_seen,
         &[
-            "over {} times as high as the last",
+            "over {} times as high",
             "top first is due, else each has another's load",
             "were they listed bottom first?",
         ],

@@ -69,6 +69,11 @@ impl Mend {
         Mend { whole: Some(whole), ..self }
     }
 
+    /// The part without what stands round it.
+    pub fn alone(self) -> Mend {
+        Mend { whole: None, ..self }
+    }
+
     /// The value of the line.
     pub fn whole(&self) -> &str {
         self.whole.as_deref().unwrap_or(&self.value)

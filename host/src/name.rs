@@ -158,6 +158,8 @@ const NAMES: [Row; 26] = [
             "excentricite de remplissage",
             "excentricite du remplissage",
             "excentrement de remplissage",
+            "inlet eccentricity",
+            "eccentricity of filling",
         ],
         "filling eccentricity = 0 mm",
         ECCENTRICITY,
@@ -173,6 +175,9 @@ const NAMES: [Row; 26] = [
             "excentricite de la vidange",
             "excentricite de sortie",
             "excentrement de vidange",
+            "eccentricity of outlet",
+            "e0",
+            "e 0",
         ],
         "outlet eccentricity = 0 mm",
         ECCENTRICITY,
@@ -288,7 +293,7 @@ pub const LABELS: [(Name, usize); 7] = [
 ];
 
 /// Names that a person may expect, and what says it here.
-const ELSEWHERE: [(&[&str], Elsewhere); 27] = [
+const ELSEWHERE: [(&[&str], Elsewhere); 29] = [
     (&["internal friction", "angle of internal friction"], Elsewhere::InternalFriction),
     (&["internal friction angle", "friction angle", "phi", "φ"], Elsewhere::InternalFriction),
     (&["frottement interne", "angle de frottement interne"], Elsewhere::InternalFriction),
@@ -323,13 +328,15 @@ const ELSEWHERE: [(&[&str], Elsewhere); 27] = [
     (&["radius", "inside radius", "rayon", "rayon interieur"], Elsewhere::Radius),
     (&["bottom"], Elsewhere::Bottom),
     (&["fill level", "filling level", "level"], Elsewhere::Level),
-    (&["niveau", "niveau de remplissage"], Elsewhere::Level),
+    (&["niveau", "niveau de remplissage", "grain level", "level of grain"], Elsewhere::Level),
+    (&["hauteur de grain", "hauteur du grain", "hauteur de remplissage"], Elsewhere::Level),
     (&["angle of repose", "repose angle", "repose", "angle de talus"], Elsewhere::Heap),
     (&["heap", "surcharge", "talus", "overfill", "crown", "cone of grain"], Elsewhere::Heap),
     (&["heap above brim", "grain above brim", "above brim", "depassement"], Elsewhere::Heap),
     (&["partial factor", "safety factor", "load factor", "factor uls"], Elsewhere::PartialFactor),
     (&["gamma f", "gamma q", "facteur de charge", "facteur partiel"], Elsewhere::PartialFactor),
     (&["coefficient de securite", "coefficient partiel"], Elsewhere::PartialFactor),
+    (&["factor of safety", "facteur de securite", "security factor"], Elsewhere::PartialFactor),
     (&["mean weight", "weight mean", "average weight"], Elsewhere::MeanWeight),
     (&["poids moyen", "poids volumique moyen", "measured weight"], Elsewhere::MeanWeight),
     (&["hopper angle from vertical", "hopper half angle", "half angle"], Elsewhere::FromVertical),
@@ -366,15 +373,60 @@ const EXTREMES: [&str; 25] = [
     "sup",
 ];
 
-/// A friction or ratio that is said to be low or high.
+/// Those of them for the upper end.
+const HIGH: [&str; 9] =
+    ["haut", "maximal", "fort", "superieur", "high", "higher", "highest", "upper", "max"];
+
+/// A friction or ratio that is said to be low or high, or a weight that is said to be low.
 fn extreme(plain: &str) -> Option<Elsewhere> {
     let (extremes, name): (Vec<&str>, Vec<&str>) =
         plain.split(' ').partition(|word| EXTREMES.contains(word));
+    let is_high = |word: &&str| HIGH.contains(word);
     match Name::find(&name.join(" ")) {
-        Some(Name::Friction) if !extremes.is_empty() => Some(Elsewhere::MeanFriction),
-        Some(Name::Ratio) if !extremes.is_empty() => Some(Elsewhere::MeanRatio),
+        _ if extremes.is_empty() => None,
+        Some(Name::Friction) => Some(Elsewhere::MeanFriction),
+        Some(Name::Ratio) => Some(Elsewhere::MeanRatio),
+        Some(Name::Weight) if !extremes.iter().any(is_high) => Some(Elsewhere::MeanWeight),
         _ => None,
     }
+}
+
+/// A friction that is said to be the grain's own.
+fn internal(plain: &str) -> Option<Elsewhere> {
+    let is_friction = |word: &str| word == "friction" || word == "frottement";
+    let is_own = |word: &str| word.starts_with("intern") || word.starts_with("grain");
+    let says = |is: fn(&str) -> bool| words(plain).any(is);
+    (says(is_friction) && says(is_own)).then_some(Elsewhere::InternalFriction)
+}
+
+/// Names of a product's numbers, and words beside them that leave them as they are. Any other may make the number another.
+const NUMBERS: [Name; 4] = [Name::Weight, Name::Ratio, Name::Friction, Name::Factor];
+const LEAVES: [&str; 16] = [
+    "the",
+    "of",
+    "on",
+    "wall",
+    "steel",
+    "unit",
+    "bulk",
+    "specific",
+    "upper",
+    "limit",
+    "coefficient",
+    "coeff",
+    "value",
+    "product",
+    "discharge",
+    "max",
+];
+
+/// A name with other words beside it that may make it another.
+pub fn is_qualified(text: &str, name: Name) -> bool {
+    let plain = plain(text);
+    let spelt = |word: &str| Name::find(word) == Some(name);
+    NUMBERS.contains(&name)
+        && words(&plain).any(spelt)
+        && words(&plain).any(|word| !spelt(word) && !LEAVES.contains(&word))
 }
 
 impl Name {
@@ -422,7 +474,8 @@ pub fn meant(text: &str) -> (Option<Elsewhere>, Vec<Name>) {
     let plain = plain(text);
     let plain = plain.as_str();
     let said = ELSEWHERE.iter().find(|(names, _)| names.contains(&plain));
-    match said.map(|(_, elsewhere)| *elsewhere).or_else(|| extreme(plain)) {
+    let said = said.map(|(_, elsewhere)| *elsewhere);
+    match said.or_else(|| extreme(plain)).or_else(|| internal(plain)) {
         Some(elsewhere) => (Some(elsewhere), Vec::new()),
         None => {
             let others = NAMES.iter().flat_map(|row| row.others).filter(|other| other.len() > 3);
@@ -437,24 +490,21 @@ pub fn meant(text: &str) -> (Option<Elsewhere>, Vec<Name>) {
     }
 }
 
-/// A word for nothing, or for the middle.
-pub fn is_none(text: &str) -> bool {
-    const WORDS: [&str; 28] = [
-        "brim",
-        "full",
-        "level",
-        "none",
-        "no",
-        "nil",
-        "zero",
-        "without",
-        "0",
-        "flat",
-        "centre",
-        "center",
-        "central",
-        "centred",
-        "centered",
+/// A word for nothing.
+pub fn is_nothing(text: &str) -> bool {
+    const WORDS: [&str; 10] =
+        ["none", "no", "nil", "zero", "without", "0", "aucun", "aucune", "non", "sans"];
+    WORDS.contains(&&*plain(text))
+}
+
+/// A word for a grain's surface at the brim.
+pub fn is_brim(text: &str) -> bool {
+    ["brim", "full", "level", "plein"].contains(&&*plain(text))
+}
+
+/// A word for the axis.
+pub fn is_axis(text: &str) -> bool {
+    const WORDS: [&str; 13] = [
         "middle",
         "axis",
         "on axis",
@@ -462,15 +512,16 @@ pub fn is_none(text: &str) -> bool {
         "axial",
         "axially",
         "concentric",
-        "aucun",
-        "aucune",
-        "non",
-        "sans",
+        "in the centre",
+        "in the middle",
+        "at the centre",
+        "au centre",
         "axe",
-        "plat",
+        "dans l'axe",
     ];
     let plain = plain(text);
-    WORDS.contains(&&*plain) || plain.starts_with("centr")
+    let is_centre = ["centr", "center"].iter().any(|stem| plain.starts_with(stem));
+    WORDS.contains(&&*plain) || is_centre && plain.chars().all(char::is_alphabetic)
 }
 
 /// A word for a value that is left out.
@@ -532,11 +583,23 @@ fn listed<'a>(words: impl Iterator<Item = &'a str>) -> String {
 /// Letters by which a misspelt word may differ at most.
 const MOST_LETTERS: usize = 3;
 
+/// The words of a text, without what stands between them.
+pub fn words(text: &str) -> impl Iterator<Item = &str> {
+    text.split(|c: char| !c.is_alphanumeric()).filter(|word| !word.is_empty())
+}
+
 /// The words that a text is part of or that are part of it; where there are none, the nearest, if it differs by few letters.
 pub fn close<'a>(text: &str, words: impl Iterator<Item = &'a str> + Clone) -> Vec<&'a str> {
-    let is_part = |word: &str| text.split(|c: char| !c.is_alphanumeric()).any(|part| part == word);
-    let shares = |word: &&str| word.contains(text) || is_part(word);
-    let whole: Vec<&str> = words.clone().filter(shares).collect();
+    let is_part = |word: &&str| self::words(text).any(|part| part == *word);
+    match &words.clone().filter(is_part).collect::<Vec<&str>>()[..] {
+        [] => near(text, words),
+        whole => whole.to_vec(),
+    }
+}
+
+/// The words that a text is part of; where there are none, the nearest, if it differs by few letters.
+pub fn near<'a>(text: &str, words: impl Iterator<Item = &'a str> + Clone) -> Vec<&'a str> {
+    let whole: Vec<&str> = words.clone().filter(|word| word.contains(text)).collect();
     if text.len() > 2 && !whole.is_empty() {
         return whole;
     }

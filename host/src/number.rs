@@ -2,7 +2,7 @@
 
 use crate::fraction::Fraction;
 use crate::inches;
-use crate::message::{Mend, Number, Reading, Slip};
+use crate::message::{Mend, Number, Reading, Slip, What};
 
 /// `digits` over 10^`places`, with no zeros at the end of the fraction.
 #[derive(Clone, Copy)]
@@ -162,6 +162,9 @@ const MASSES: [(&str, u64); 14] = [
 
 /// m/s2, hundredths
 pub const GRAVITY: u32 = 981;
+
+/// Lighter is no grain, N/m3
+pub const LIGHTEST: u64 = 4000;
 
 /// Hundredths by which a measured mean weight is raised at least (7.3.1).
 const RAISED: u64 = 115;
@@ -326,11 +329,15 @@ impl Measure {
         units.next_back()
     }
 
-    /// A number without a unit that is a weight in none of them, but a mass: with the unit that it has then.
+    /// A number without a unit that is no grain's weight in any of them, but a mass: with the unit that it has then.
     fn as_mass(&self, decimal: Decimal, number: &str) -> Option<Slip> {
         let units = ["kg/m3", "kg/hl", "t/m3"].into_iter();
         let mut slips = units.filter_map(|unit| Some((unit, self.instead(decimal, unit)?)));
-        let (unit, slip) = slips.find(|(_, slip)| !slip.mends.is_empty())?;
+        let is_grain = |slip: &Slip| match *slip.what {
+            What::Number(Number::Mass(weight)) => weight >= LIGHTEST && !slip.mends.is_empty(),
+            _ => false,
+        };
+        let (unit, slip) = slips.find(|(_, slip)| is_grain(slip))?;
         Some(slip.at(format!("{number} {unit}")))
     }
 
@@ -347,13 +354,23 @@ impl Measure {
         self.units.iter().any(|(unit, _)| !unit.is_empty())
     }
 
-    /// A decimal with each unit in which it is inside the limits. Of spellings the first.
+    /// A decimal with each unit in which it is inside the limits, and a weight that of a grain. Of spellings the first; of strakes and of
+    /// an eccentricity in parts of a unit the greater first.
     fn with_units(&self, decimal: Decimal, number: &str) -> Vec<Mend> {
+        let least = if self.quantity == Quantity::Weight { LIGHTEST } else { 0 };
         let first =
             |unit: &&(&str, u32)| self.units.iter().find(|other| other.1 == unit.1) == Some(unit);
-        let fits = |power: u32| decimal.whole(power, self.most).is_ok_and(|n| self.is_inside(n));
+        let is_inside = |number: u64| number >= least && self.is_inside(number);
+        let fits = |power: u32| decimal.whole(power, self.most).is_ok_and(is_inside);
         let units = self.units.iter().filter(first).filter(|unit| fits(unit.1));
-        units.map(|(unit, _)| Mend::plain(format!("{number} {unit}"))).collect()
+        let mut mends: Vec<Mend> =
+            units.map(|(unit, _)| Mend::plain(format!("{number} {unit}"))).collect();
+        match self.quantity {
+            Quantity::StrakeHeight => mends.reverse(),
+            Quantity::Eccentricity if decimal.places > 0 => mends.reverse(),
+            _ => (),
+        }
+        mends
     }
 
     pub fn is_inside(&self, number: u64) -> bool {

@@ -1,6 +1,7 @@
 //! A silo as text: `name = value unit` a line.
 
 mod depths;
+mod elsewhere;
 mod hopper;
 mod line;
 mod product;

@@ -91,8 +91,9 @@ fn closed(value: &str) -> String {
 
 /// One quantity: a number and its unit.
 pub fn quantity(value: &str, measure: &Measure) -> Result<u64, Slip> {
-    let value = &closed(value);
-    let wrong = |slip: Number| Slip::new(slip).at(value);
+    let written = value;
+    let value = &closed(&value.replace(['–', '—'], "-"));
+    let wrong = |slip: Number| Slip::new(slip).at(written);
     if let Some(slip) = apostrophes(value) {
         return Err(slip);
     }
@@ -106,13 +107,13 @@ pub fn quantity(value: &str, measure: &Measure) -> Result<u64, Slip> {
         [Token::Number(number), Token::Word(unit)] => {
             one(number, Some(unit), measure).map_err(|slip| with_likely(slip, value, measure))
         }
-        [Token::Number(_), Token::Number(to), rest @ ..] if to.starts_with('-') => {
-            Err(range(&to[1..], rest, measure).at(value))
+        [Token::Number(from), Token::Number(to), rest @ ..] if to.starts_with('-') => {
+            Err(range([from, &to[1..]], rest, measure))
         }
-        [Token::Number(_), Token::Word(to), Token::Number(second), rest @ ..]
+        [Token::Number(from), Token::Word(to), Token::Number(second), rest @ ..]
             if RANGE.contains(to) =>
         {
-            Err(range(second, rest, measure).at(value))
+            Err(range([from, second], rest, measure))
         }
         [Token::Number(first), Token::Number(second), rest @ ..] => {
             Err(wrong(Number::TwoNumbers).with(joined(first, second, rest)))
@@ -123,19 +124,32 @@ pub fn quantity(value: &str, measure: &Measure) -> Result<u64, Slip> {
 }
 
 /// Words between the ends of a range.
-const RANGE: [&str; 6] = ["-", "–", "..", "to", "a", "à"];
+const RANGE: [&str; 5] = ["-", "..", "to", "a", "à"];
 
-/// Of a range of weights the upper end, of a range of masses what that weighs; of no other is it known which end is careful.
-fn range(upper: &str, rest: &[Token], measure: &Measure) -> Slip {
+/// Of a range of weights the greater end, of a range of masses what that weighs; of no other is it known which end is careful.
+fn range(ends: [&str; 2], rest: &[Token], measure: &Measure) -> Slip {
     let slip = Slip::new(Number::Range);
     let [Token::Word(unit)] = rest else { return slip };
     if measure.quantity != Quantity::Weight {
         return slip;
     }
-    match one(upper, Some(unit), measure) {
-        Ok(weight) => slip.with(measure.mends([weight])),
-        Err(other) if matches!(*other.what, What::Number(Number::Mass(_))) => other,
-        Err(_) => slip,
+    let mass = |slip: &Slip| match *slip.what {
+        What::Number(Number::Mass(weight)) => Some(weight),
+        _ => None,
+    };
+    match ends.map(|end| one(end, Some(unit), measure)) {
+        [Ok(from), Ok(to)] => slip.with(measure.mends([from.max(to)])),
+        [Err(from), Err(to)] => match mass(&from).zip(mass(&to)) {
+            Some((first, second)) => {
+                if first > second {
+                    from
+                } else {
+                    to
+                }
+            }
+            None => slip,
+        },
+        _ => slip,
     }
 }
 
@@ -218,9 +232,14 @@ fn in_words(value: &str, measure: &Measure) -> Slip {
     if measure.quantity == Quantity::Factor && name::is_blank(value) {
         return Slip::new(Number::Blank).with([Mend::plain("")]);
     }
-    let is_0 = measure.limits.0 == 0 && name::is_none(value);
+    let is_0 = name::is_nothing(value)
+        || match measure.quantity {
+            Quantity::Eccentricity => name::is_axis(value),
+            Quantity::Headroom => name::is_brim(value),
+            _ => false,
+        };
     let slip = Slip::new(Number::NotANumber(Some(measure.quantity))).at(value);
-    match is_0 {
+    match is_0 && measure.limits.0 == 0 {
         true => slip.with([Mend::plain((measure.show)(0))]),
         false => beside_words(slip, value, measure),
     }
@@ -254,8 +273,7 @@ fn one(number: &str, unit: Option<&str>, measure: &Measure) -> Result<u64, Slip>
         return read;
     }
     // a comma, a sign or a letter is at fault without its unit
-    let read =
-        Decimal::read(number).map_err(|slip| not_thousands(number, unit, measure).unwrap_or(slip));
+    let read = Decimal::read(number).map_err(|slip| inside(slip, number, unit, measure));
     let decimal = read.map_err(|slip| slip.between("", &unit_behind))?;
     if let Some(slip) = unit.and_then(|unit| measure.instead(decimal, unit)) {
         return Err(slip.at(written));
@@ -268,14 +286,18 @@ fn one(number: &str, unit: Option<&str>, measure: &Measure) -> Result<u64, Slip>
     })
 }
 
-/// `9,000 kN/m3`: a decimal, where thousands of that unit are outside the limits.
-fn not_thousands(number: &str, unit: Option<&str>, measure: &Measure) -> Option<Slip> {
-    let (before, after) = number.split_once(',').filter(|(_, after)| *after == "000")?;
-    let is_inside = |number: &str| one(number, unit, measure).is_ok_and(|n| measure.is_inside(n));
-    let decimal = format!("{before}.{after}");
-    let meant = !is_inside(&format!("{before}{after}")) && is_inside(&decimal);
-    let mend = Mend::new(decimal, Reading::Decimal);
-    meant.then(|| Slip::new(Number::Comma(2)).at(number).with([mend]))
+/// Of what a number with a comma may mean, what is inside the limits with its unit: `9,000 kN/m3` is a decimal.
+fn inside(slip: Slip, number: &str, unit: Option<&str>, measure: &Measure) -> Slip {
+    let is_inside =
+        |mend: &Mend| one(&mend.value, unit, measure).is_ok_and(|number| measure.is_inside(number));
+    let decimal = number.split_once(',').filter(|(_, after)| *after == "000");
+    let decimal = decimal.map(|(before, _)| Mend::new(format!("{before}.000"), Reading::Decimal));
+    let kept: Vec<Mend> = slip.mends.iter().filter(|mend| is_inside(mend)).cloned().collect();
+    match decimal.filter(is_inside) {
+        Some(decimal) if kept.is_empty() => slip.with([decimal]),
+        _ if kept.is_empty() => slip,
+        _ => slip.with(kept),
+    }
 }
 
 /// The mends of a part of a value as whole values; the part is a slice of the value.

@@ -247,9 +247,11 @@ fn a_headroom_at_fault_is_listed_and_leaves_h_for_later() {
     assert_eq!(library::verdict(&silo.to_bytes()), Err(Refusal::HEADROOM));
     silo.product.weight = 999;
     let why = "no grain is left at the wall; it must be under the sum of the strakes, 10000 mm";
+    let good = "at most 9999 mm, or strakes of more than 10000 mm together";
+    let meant = "if the grain's height was meant, the headroom is the rest";
     assert_eq!(
         others(Refusal::PRODUCT, &silo),
-        [format!("17: headroom = 10000 mm: {why}: at most 9999 mm, or strakes of more than 10000 mm together")]
+        [format!("17: headroom = 10000 mm: {why}: {good}; {meant}")]
     );
     let later = |size| Some(format!("limits measured by {size} are judged after the mend"));
     assert_eq!(place::later(&silo), later("the headroom"));

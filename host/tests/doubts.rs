@@ -38,7 +38,7 @@ const SHORT: Changes = &[("strakes", "2 x 1 m"), ("depths", "2 m")];
 const NARROW: Changes = &[FLAT[0], FLAT[1], FLAT[2], ("strakes", "5 x 1000 mm"), ("depths", "5 m")];
 
 /// Of a silo that names no product.
-const OF_SIZES: [Case; 24] = [
+const OF_SIZES: [Case; 26] = [
     ("headroom-high", "headroom", "2000 mm", "2001 mm", &[("strakes", "2400, 2 x 1800 mm")]),
     ("strake-without-load", "headroom", "1999 mm", "2000 mm", &[]),
     ("weight-low", "weight", "4000 N/m3", "3999 N/m3", &[]),
@@ -47,6 +47,7 @@ const OF_SIZES: [Case; 24] = [
     ("friction-low", "friction", "0.20", "0.19", &[]),
     ("friction-high", "friction", "0.60", "0.61", &[]),
     ("friction-high", "friction", "0.60", "0.61", CORRUGATED),
+    ("friction-corrugated-low", "friction", "0.30", "0.29", CORRUGATED),
     ("factor-low", "factor", "1.35", "1.34", &[]),
     ("narrow", "diameter", "1000 mm", "999 mm", NARROW),
     ("slender", "diameter", "1917 mm", "1916 mm", &[("hopper run", "900 mm")]),
@@ -54,6 +55,7 @@ const OF_SIZES: [Case; 24] = [
     ("strakes-low", "strakes", "20 x 500 mm", "20 x 499 mm", &[]),
     ("strakes-unequal", "strakes", "300, 4 x 2100 mm", "300, 4 x 2101 mm", &[]),
     ("first-strake-high", "strakes", "2 x 1400, 7 x 1000 mm", "2 x 1401, 7 x 1000 mm", &[]),
+    ("first-strake-high", "strakes", "1400, 1000, 5 x 1400 mm", "1401, 1000, 5 x 1400 mm", &[]),
     ("one-strake", "strakes", "2 x 1500 mm", "3000 mm", ONE_STRAKE),
     ("hopper-high", "hopper height", "4000 mm", "4001 mm", SHORT),
     ("hopper-steep", "hopper height", "8000 mm", "8001 mm", &[]),
@@ -80,7 +82,7 @@ const OF_WHEAT: [Case; 11] = [
     ("friction-light-drag", "friction", "0.40", "0.39", &[("wall", "concrete")]),
     ("friction-corrugated", "friction", "0.31", "0.30", CORRUGATED),
     ("friction-light-on-unnamed-wall", "friction", "0.40", "0.41", &[]),
-    ("friction-low", "friction", "0.20", "0.19", &[]),
+    ("friction-light-drag-on-unnamed-wall", "friction", "0.30", "0.29", &[]),
 ];
 
 /// Equal to a limit there is no doubt, beyond it that one alone.

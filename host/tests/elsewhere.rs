@@ -42,7 +42,32 @@ fn what_a_text_does_not_have_is_answered() {
 
 /// A slip, and what its fixes begin with: the careful one first, and no lighter one beside it.
 type Slip = (&'static [(&'static str, &'static str)], &'static [&'static str]);
-const CAREFUL: [Slip; 8] = [
+const CAREFUL: [Slip; 27] = [
+    (&[("weight", "9 to 7 kN/m3")], &["weight = 9000 N/m3"]),
+    (&[("weight", "80-76 kg/hl")], &["weight = 9026 N/m3"]),
+    (&[("weight", "1600")], &["weight = 18051 N/m3"]),
+    (&[("weight", "95")], &["weight = 10718 N/m3"]),
+    (&[("outlet eccentricity", "centre of outlet 1 m from axis")], &[]),
+    (&[("outlet eccentricity", "full")], &[]),
+    (
+        &[("outlet eccentricity", "0.5")],
+        &["outlet eccentricity = 0.5 m", "outlet eccentricity = 0.5 cm"],
+    ),
+    (&[("strakes", "8 x 200")], &["strakes = 8 x 200 cm", "strakes = 8 x 200 mm"]),
+    (&[("strakes", "8 ft 200 mm")], &[]),
+    (&[("wall", "steel/concrete")], &[]),
+    (&[("wall", "smooth steel, not corrugated")], &[]),
+    (
+        &[("product", "wheat"), ("weight", "85 kg/hl"), ("ratio", "-"), ("wall", "steel")],
+        &["weight = 9590 N/m3"],
+    ),
+    (&[("wall height", "16 m")], &[]),
+    (&[("wall height", "10 m")], &["# wall height = 10 m"]),
+    (&[("grain height", "17 m")], &[]),
+    (&[("grain height", "8 m")], &["# grain height = 8 m"]),
+    (&[("phi", "45 deg"), ("factor", "")], &[]),
+    (&[("phi", "45 deg"), ("factor", "-")], &["factor = 1.65"]),
+    (&[("phi", "40 deg"), ("factor", "")], &["# phi = 40 deg"]),
     (&[("headroom", "150.5 mm")], &["headroom = 150 mm"]),
     (&[("headroom", "0m30")], &["headroom = 300 mm"]),
     (
@@ -58,6 +83,38 @@ const CAREFUL: [Slip; 8] = [
     (&[("wall", "stainless")], &[]),
     (&[("wall", "bright steel")], &[]),
 ];
+
+/// Words or numbers beside a product, and two products: none is a fix.
+#[test]
+fn no_product_is_guessed() {
+    let fixes = |name| {
+        let changes = [("product", name), ("weight", "-"), ("ratio", "-"), ("wall", "steel")];
+        text::read(&text_with(&changes)).expect_err(name)[0].fixes.clone()
+    };
+    for name in ["wheat 10 kN/m3", "wet wheat", "not wheat", "corn or barley", "wheat/barley"] {
+        assert_eq!(fixes(name), Vec::<String>::new(), "{name}");
+    }
+    for name in ["winter wheat", "wheat grains", "wheta"] {
+        assert_eq!(fixes(name), ["product = wheat"], "{name}");
+    }
+}
+
+/// Names with words beside them that may make them another number.
+#[test]
+fn no_qualified_name_is_guessed() {
+    for (name, of) in [
+        ("friction of grain", "friction"),
+        ("coefficient of internal friction", "friction"),
+        ("friction of sand", "friction"),
+        ("min weight", "weight"),
+        ("factor of safety", "factor"),
+    ] {
+        let messages = text::read(&text_with(&[(of, "-"), (name, "1.2")])).expect_err(name);
+        let fixes = messages.iter().flat_map(|message| &message.fixes);
+        let guessed = |fix: &&String| fix.starts_with(of) && fix.contains("1.2");
+        assert_eq!(fixes.clone().find(guessed), None, "{name}");
+    }
+}
 
 #[test]
 fn fixes_are_careful() {

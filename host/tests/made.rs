@@ -226,6 +226,9 @@ fn capacity_and_totals() {
         };
         let foot = loads.rows().last().expect("the foot")[4];
         above("P_w(V) times perimeter", f64::from(foot) * perimeter);
+        let slenderness = silo.height() as f64 / f64::from(silo.section.shorter_side());
+        let factor = (1.0 + 0.2 * (slenderness - 1.0)).clamp(1.0, 1.1);
+        above("P_w(V) times perimeter and C_w", f64::from(foot) * perimeter * factor);
         match silo.is_flat() {
             true => above("total on the floor", f64::from(loads.floor()) * area),
             false => assert!(!table.contains("\ntotal on the floor")),

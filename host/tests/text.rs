@@ -363,6 +363,40 @@ const BAD: &[&[(&str, &str)]] = &[
     &[("weight", "8 to 9 kN/m3")],
     &[("diameter", "5 - 6 m")],
     &[("weight", "780 g/l")],
+    &[("weight", "9 to 7 kN/m3")],
+    &[("weight", "80–76 kg/hl")],
+    &[("weight", "95")],
+    &[("weight", "1600")],
+    &[("weight", "1.6")],
+    &[("outlet eccentricity", "0.5")],
+    &[("outlet eccentricity", "centre + 500 mm")],
+    &[("outlet eccentricity", "full")],
+    &[("outlet eccentricity", "in the centre")],
+    &[("headroom", "full")],
+    &[("strakes", "8 x 200")],
+    &[("strakes", "8 ft 200 mm")],
+    &[("strakes", "3 plus 2 m")],
+    &[("strakes", "8 2000 mm")],
+    &[("strakes", "2000 x 3, 1500 x 5 mm")],
+    &[("strakes", "3 rings x 8")],
+    &[("strakes", "1,2; 3 m")],
+    &[("diameter", "-"), ("sides", "12 ft 6.5 in x 15 ft")],
+    &[("diameter", "-"), ("sides", "4,000 x 6 m")],
+    &[("wall", "steel/concrete")],
+    &[("wall", "smooth steel, not corrugated")],
+    &[("wall", "uncorrugated")],
+    &[("wall height", "16 m")],
+    &[("wall height", "10 m")],
+    &[("grain height", "17 m")],
+    &[("grain height", "8 m")],
+    &[("phi", "45 deg"), ("factor", "")],
+    &[("phi", "35 deg"), ("factor", "-")],
+    &[("phi", "30 deg")],
+    &[("friction of grain", "0.5")],
+    &[("min weight", "8 kN/m3"), ("weight", "-")],
+    &[("factor of safety", "1.35"), ("factor", "-")],
+    &[("friction of sand", "0.5"), ("friction", "-")],
+    &[("inlet eccentricity", "1 m")],
     &[("weight", "60 lb/bushel")],
     &[("headroom", "15.4 m of grain")],
     &[("headroom", "approx. 300 mm")],
@@ -491,7 +525,11 @@ fn long_texts_take_no_longer_than_they_are() {
     };
     let pairs = LINES.map(|line| [65_536, 1 << 20].map(|bytes| repeated(line, bytes)));
     let words = WORDS.map(|word| [12_500, 200_000].map(|bytes| repeated(word, bytes)));
-    for [short, long] in pairs.into_iter().chain(words).chain([[4_000, 64_000].map(spaced)]) {
+    let lists = ["strakes = ", "depths = "].map(|name| {
+        [12_500, 200_000].map(|bytes| name.to_string() + &repeated("24 x 65 ft,", bytes) + " 5 ft")
+    });
+    let others = lists.into_iter().chain([[4_000, 64_000].map(spaced)]);
+    for [short, long] in pairs.into_iter().chain(words).chain(others) {
         let [short_time, time] = [&short, &long].map(|text| time_of(text));
         let most = 64 * short_time.max(Duration::from_millis(1));
         assert!(time <= most, "{:.20}: {time:?}, {short_time:?} for a sixteenth", long);

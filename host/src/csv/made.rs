@@ -61,7 +61,7 @@ fn by_hand(report: &Report, rows: Rows) -> String {
     let side = rows.dialect.number(&tenths(report.silo.section.patch_side()));
     page += &rows.fact("s", side, "mm");
     if let Some(hopper) = basis.hopper {
-        page += &rows.exact("sin^2 alpha", hopper.sine_squared, DIGITS, "");
+        page += &rows.exact("sin^2 alpha", hopper.sine_squared, Q_DIGITS, "");
         for (name, pascals) in [("B", hopper.base), ("n3", hopper.n3)] {
             page += &rows.exact(name, pressure(Fraction::whole(pascals)), DIGITS, unit);
         }

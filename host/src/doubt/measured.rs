@@ -18,7 +18,7 @@ fn ratio(product: &Product, name: Name) -> Ratio {
     (number(product, name), if name == Name::Weight { 1 } else { 100 })
 }
 
-/// The same alone.
+/// The number of a product, N/m³ or hundredths.
 fn number(product: &Product, name: Name) -> u64 {
     match name {
         Name::Weight => product.weight.into(),
@@ -91,30 +91,36 @@ pub fn friction_on_smooth_wall(case: &Case) -> Option<Ratio> {
     case.by_table(Name::Friction).filter(|_| is_of_table(case))
 }
 
-/// Where no wall is named, by the greater of table 7.1, that on concrete.
-pub fn friction_on_unnamed_wall(case: &Case) -> Option<Ratio> {
+/// Where no wall is named, by table 7.1's on this wall: it has the lower on steel and the greater on concrete.
+pub fn friction_by(case: &Case, wall: Wall) -> Option<Ratio> {
     let row = case.origin.row.filter(|_| case.origin.wall.is_none())?;
-    let concrete = Origin::numbers(row, Some(&Wall::Concrete)).ok()?;
-    Some((case.silo.product.friction.into(), concrete.friction.into()))
+    let table = Origin::numbers(row, Some(&wall)).ok()?;
+    Some((case.silo.product.friction.into(), table.friction.into()))
 }
 
-pub fn friction_on_unnamed_wall_seen(case: &Case) -> String {
-    let most = friction_on_unnamed_wall(case).map_or(0, |(_, most)| most);
+pub fn friction_by_seen(case: &Case, wall: Wall, bound: &str) -> String {
+    let limit = friction_by(case, wall).map_or(0, |(_, limit)| limit);
     let product = case.origin.row.map_or("", catalogue::product);
     let line = case.line(Name::Friction);
-    format!("{line}, where table 7.1 has at most {} for {product}", hundredths(most))
+    format!("{line}, where table 7.1 has {bound} {} for {product}", hundredths(limit))
+}
+
+fn is_corrugated(case: &Case) -> bool {
+    matches!(case.origin.wall, Some(Wall::Corrugated(_)))
 }
 
 /// By that on smooth steel.
 pub fn friction_on_corrugated_wall(case: &Case) -> Option<Ratio> {
-    let corrugated = matches!(case.origin.wall, Some(Wall::Corrugated(_)));
-    case.by_table(Name::Friction).filter(|_| corrugated)
+    case.by_table(Name::Friction).filter(|_| is_corrugated(case))
 }
 
-/// Where neither the product nor the wall tells what it may be.
-pub fn friction_without_wall(case: &Case) -> Option<Ratio> {
-    let unknown = case.origin.row.is_none() || case.origin.wall.is_none();
-    friction_by_itself(case).filter(|_| unknown)
+pub fn friction_on_corrugated_wall_by_itself(case: &Case) -> Option<Ratio> {
+    case.without_product(Name::Friction).filter(|_| is_corrugated(case))
+}
+
+/// On a wall that may be smooth.
+pub fn friction_without_product(case: &Case) -> Option<Ratio> {
+    case.without_product(Name::Friction).filter(|_| !is_corrugated(case))
 }
 
 /// Where table 7.1 has none to measure it by.
@@ -166,15 +172,15 @@ pub fn shape_seen(case: &Case) -> String {
     format!("height h {} mm on a width of {} mm", case.silo.height(), case.width())
 }
 
-/// The first strake over the last.
+/// The first strake over the lowest below it.
 pub fn first_strake(case: &Case) -> Option<Ratio> {
-    let strakes = &case.silo.strakes;
-    strakes.first().zip(strakes.last()).map(|(first, last)| ((*first).into(), (*last).into()))
+    let (first, others) = case.silo.strakes.split_first()?;
+    others.iter().min().map(|lowest| ((*first).into(), (*lowest).into()))
 }
 
 pub fn first_strake_seen(case: &Case) -> String {
-    let (first, last) = first_strake(case).unwrap_or_default();
-    format!("the first strake is {first} mm and the last {last} mm")
+    let (first, lowest) = first_strake(case).unwrap_or_default();
+    format!("the first strake is {first} mm and one below it {lowest} mm")
 }
 
 pub fn hopper_seen(case: &Case) -> String {

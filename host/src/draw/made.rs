@@ -1,6 +1,6 @@
 //! What the loads of a drawing are made with: their equations, and Ks and mu as they act (7.1 to 7.3).
 
-use crate::basis::{Basis, Filling, Made};
+use crate::basis::{Basis, Filling, Made, Q_DIGITS};
 use crate::description::Product;
 use crate::fraction::Fraction;
 use crate::report::Report;
@@ -67,14 +67,14 @@ pub fn with(made: &Made, product: &Product) -> String {
 pub fn by_hand(report: &Report) -> String {
     let (basis, units) = (Basis::of(report.silo), report.units);
     let filling = |(loads, Filling { limit, z0, q_at_foot, .. }): (&str, &Filling)| {
-        let (limit, z0, q) = (units.exact(*limit), z0.about(3), q_at_foot.shown());
+        let (limit, z0, q) = (units.exact(*limit), z0.about(3), q_at_foot.about(Q_DIGITS));
         format!("{loads}: P {limit} {}, z0 {z0} mm, q {q}", units.pressure())
     };
     let loads = ["p_hf", "p_wf and P_w", "p_vf"].into_iter().zip(&basis.filling);
     let filling = loads.map(filling).collect::<Vec<String>>().join("; ");
     let hopper = basis.hopper.map(|hopper| {
         let [base, n3] = [hopper.base, hopper.n3].map(|n| units.exact(Fraction::whole(n)));
-        let sine = hopper.sine_squared.shown();
+        let sine = hopper.sine_squared.about(Q_DIGITS);
         format!("; sin^2 alpha {sine}, B {base}, n3 {n3} {}", units.pressure())
     });
     let (radius, beta) = (basis.radius.about(3), basis.beta.shown());

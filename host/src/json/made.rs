@@ -76,7 +76,7 @@ pub fn by_hand(report: &Report) -> String {
     ];
     if let Some(hopper) = basis.hopper {
         fields.extend([
-            ("sin2_alpha", exact(hopper.sine_squared)),
+            ("sin2_alpha", exact_to(Q_DIGITS, hopper.sine_squared)),
             ("B_pa", hopper.base.to_string()),
             ("n3_pa", hopper.n3.to_string()),
         ]);

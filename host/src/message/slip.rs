@@ -250,11 +250,16 @@ impl Choice {
 #[derive(Clone, Copy, Debug, PartialEq, Eq)]
 pub enum Elsewhere {
     Height,
+    /// The strakes make so many mm, and not what is said.
+    OtherHeight(u64),
+    UnknownHeight,
     Width,
     Radius,
     Bottom,
     NoHopper,
+    /// The grain's height, up to the wall's.
     Level,
+    UnknownLevel,
     /// Grain above the line where it meets the wall.
     Heap,
     MeanFriction,
@@ -262,6 +267,9 @@ pub enum Elsewhere {
     /// A weight that is no upper limit.
     MeanWeight,
     InternalFriction,
+    /// An angle that asks for a factor of so many hundredths.
+    GreaterFactor(u64),
+    UnknownAngle,
     PartialFactor,
     /// A hopper's angle that is not counted from the horizontal.
     FromVertical,
@@ -284,8 +292,14 @@ impl Elsewhere {
             Elsewhere::CountOfStrakes | Elsewhere::TopFirst => Some(Name::Strakes),
             Elsewhere::MeanWeight => Some(Name::Weight),
             Elsewhere::FromVertical => Some(Name::HopperAngle),
+            Elsewhere::GreaterFactor(_) => Some(Name::Factor),
             _ => None,
         }
+    }
+
+    /// What other lines say decides whether it can be left out.
+    pub fn is_judged(self) -> bool {
+        matches!(self, Elsewhere::Height | Elsewhere::Level | Elsewhere::InternalFriction)
     }
 
     /// The line says nothing that is not said already.

@@ -6,7 +6,7 @@ use super::slip::{
 };
 use super::{Mend, Reading, Slip};
 use crate::name::{self, Name};
-use crate::number::{degrees, Quantity};
+use crate::number::{degrees, hundredths, Quantity};
 
 /// What is wrong, and the mend.
 pub fn of(slip: &Slip) -> String {
@@ -184,7 +184,9 @@ fn found(what: &Number) -> String {
         Number::NotANumber(None) => "not a number",
         Number::NotOneNumber => "not one number with its unit",
         Number::Range => "a range where one number is due",
-        Number::Blank => "a blank factor has nothing behind the sign",
+        Number::Blank => {
+            "no number; beside a product leave the line out, else leave nothing behind the sign"
+        }
         Number::Negative => "negative; a sheet holds numbers from 0 up",
         Number::TooManyDigits => "more digits than a sheet holds",
         Number::Comma(_) => "a comma between digits",
@@ -220,7 +222,7 @@ fn mass(newtons: u64, mends: &[Mend]) -> String {
 fn upper_weight(mends: &[Mend]) -> String {
     let table = "table 7.1's weights are upper limits (7.2)";
     let mean = "a measured mean is to be raised by at least 1.15 (7.3.1)";
-    let row = "; beside a product of that table leave the line out to take its weight";
+    let row = "; beside a product of that table the greater of the two is due";
     let row = if mends.is_empty() { "" } else { row };
     format!("{table}, and {mean}{}{row}", write(mends))
 }
@@ -314,10 +316,21 @@ fn choice(what: &Choice, mends: &[Mend]) -> String {
 fn elsewhere(elsewhere: Elsewhere) -> String {
     let words = match elsewhere {
         Elsewhere::Height => "the wall's height is the sum of its strakes; leave the line out",
+        Elsewhere::OtherHeight(wall) => {
+            return format!("the wall's height is the sum of its strakes, and that is {wall} mm; which is right?")
+        }
+        Elsewhere::UnknownHeight => "the wall's height is the sum of its strakes",
         Elsewhere::Width => "write diameter = 5000 mm or sides = 4000 x 6000 mm",
         Elsewhere::Radius => "a circle is said by its diameter, twice the radius",
         Elsewhere::InternalFriction => {
-            "the angle of internal friction is not the friction on the wall; it gives the factor C0 (7.4), which left blank is taken at 40 degrees; leave the line out"
+            "the angle of internal friction is not the friction on the wall; it gives the factor C0 (7.4), which is there and no smaller; leave the line out"
+        }
+        Elsewhere::GreaterFactor(factor) => {
+            let factor = hundredths(factor);
+            return format!("the angle of internal friction is not the friction on the wall; it gives the factor C0 (7.4): write factor = {factor}");
+        }
+        Elsewhere::UnknownAngle => {
+            "internal friction is not the friction on the wall; its angle gives the factor C0, 1.35 + 0.02 for each degree over 30 (7.4)"
         }
         Elsewhere::CountOfStrakes => "count and height stand in one line, as strakes = 8 x 1200 mm",
         Elsewhere::TopFirst => "strakes are listed top first; write strakes and turn the list round",
@@ -339,7 +352,10 @@ fn elsewhere(elsewhere: Elsewhere) -> String {
             "hopper angle is from the horizontal: 90 degrees less the one from the vertical"
         }
         Elsewhere::Level => {
-            "the grain is taken as level with the brim, or below it by headroom = 300 mm; leave the line out"
+            "the grain is taken as level with the brim, or below it by a line headroom; leave the line out"
+        }
+        Elsewhere::UnknownLevel => {
+            "the grain is taken as level with the brim, or below it by a line headroom"
         }
     };
     words.to_string()
@@ -659,7 +675,9 @@ fn headroom(wall: u64, good: Option<(u64, u64)>, higher: Option<u64>, mends: &[M
     let higher = higher.filter(|_| good.is_some());
     let higher = higher.map(|headroom| format!(", or strakes of more than {headroom} mm together"));
     let limit = format!("it must be under the sum of the strakes, {wall} mm");
-    let mend = good.unwrap_or_default() + &higher.unwrap_or_default() + &did_you_mean(mends);
+    let meant = "; if the grain's height was meant, the headroom is the rest";
+    let mend =
+        good.unwrap_or_default() + &higher.unwrap_or_default() + meant + &did_you_mean(mends);
     format!("no grain is left at the wall; {limit}{mend}")
 }
 

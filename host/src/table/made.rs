@@ -130,7 +130,7 @@ fn hopper_formulas(report: &Report, hopper: &Hopper, made: impl Fn(&str) -> Stri
         format!(
             "sin^2 alpha = H^2/(H^2 + r^2) = {}, cos^2 = 1 - sin^2; B = 3 R gamma 1.15 Ks sin^2 = {} {unit}, n3 = B/root(0.9 mu) = {} {unit} \
              (5.18), both rounded up",
-            hopper.sine_squared.shown(),
+            hopper.sine_squared.about(Q_DIGITS),
             pressure(hopper.base),
             pressure(hopper.n3)
         ),

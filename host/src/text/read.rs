@@ -51,7 +51,9 @@ pub(super) struct Reader {
     /// The first of each name.
     pub(super) lines: Vec<Line>,
     /// Names that stand in the text misspelt or without an equals sign; their slips are told.
-    meant: Vec<Name>,
+    pub(super) meant: Vec<Name>,
+    /// Lines under names that say what is said elsewhere, to be judged by the others.
+    pub(super) elsewhere: Vec<(Elsewhere, String, Line)>,
     messages: Vec<Message>,
 }
 
@@ -65,6 +67,7 @@ pub fn is_silo(text: &str) -> bool {
 
 pub fn read(text: &str) -> Result<Text, Vec<Message>> {
     let mut reader = Reader::of(text);
+    reader.judge_elsewhere();
     let described = reader.description();
     let stiffened = reader.stiffeners();
     let labels = reader.labels();
@@ -115,7 +118,7 @@ fn named(content: &str) -> Option<(Name, &str)> {
 /// Hopper height and run of a flat floor.
 pub(super) fn flat(value: &str) -> Result<(u32, u32), Slip> {
     match name::plain(value).as_str() {
-        "flat" | "plat" | "flat floor" | "fond plat" => Ok((0, 0)),
+        "flat" | "plat" | "flat floor" | "flat bottom" | "fond plat" => Ok((0, 0)),
         _ => Err(Slip::new(Choice::Floor)),
     }
 }
@@ -150,7 +153,7 @@ fn said_elsewhere(elsewhere: Elsewhere, value: &str) -> Option<Mend> {
 }
 
 /// The line with each mend that can be read.
-fn mended(line: &Line, mends: &[Mend]) -> Vec<String> {
+pub(super) fn mended(line: &Line, mends: &[Mend]) -> Vec<String> {
     let good = |mend: &&Mend| is_read(mend.name.unwrap_or(line.name), mend);
     mends.iter().filter(good).map(|mend| line.mended(mend)).collect()
 }
@@ -211,9 +214,12 @@ impl Reader {
         let part = if all { String::new() } else { slip.part.clone() };
         let mut fixes = mended(line, &slip.mends);
         match *slip.what {
-            What::Number(Number::Mass(_) | Number::MeanWeight) if self.has(Name::Product) => {
+            What::Number(Number::Mass(_) | Number::MeanWeight)
+                if self.is_lighter_than_table(&slip.mends) =>
+            {
                 fixes.insert(0, line.left_out())
             }
+            What::Number(Number::Blank) if self.has(Name::Product) => fixes = vec![line.left_out()],
             // the line may be named by the angle
             What::Number(Number::Angle(_)) => {
                 let tangents = slip.mends.iter().map(|mend| mend.clone().of_line(name));
@@ -273,12 +279,20 @@ impl Reader {
 
     fn unknown_name(&mut self, number: usize, word: &str, line: &str, value: &str) {
         let (mut elsewhere, names) = name::meant(word);
-        if ["hopper", "cone", "tremie"].contains(&&*name::plain(word)) && name::is_none(value) {
+        if let Some(elsewhere) = elsewhere.filter(|elsewhere| elsewhere.is_judged()) {
+            let written = Line::new(number, Name::Note, line, value);
+            return self.elsewhere.push((elsewhere, shortened(word), written));
+        }
+        let is_flat = name::is_nothing(value) || flat(value).is_ok();
+        if ["hopper", "cone", "tremie"].contains(&&*name::plain(word)) && is_flat {
             elsewhere = Some(Elsewhere::NoHopper);
         }
         let mends: Vec<Mend> = match elsewhere {
             Some(elsewhere) => said_elsewhere(elsewhere, value).into_iter().collect(),
-            None => names.iter().map(|name| Mend::plain(value).of_line(*name)).collect(),
+            None => {
+                let plain = names.iter().filter(|name| !name::is_qualified(word, **name));
+                plain.map(|name| Mend::plain(value).of_line(*name)).collect()
+            }
         };
         match elsewhere {
             Some(elsewhere) => self.meant.extend(elsewhere.name()),

@@ -102,6 +102,12 @@ fn one_of(items: &[Item], at: usize, value: &str, measure: &Measure) -> Result<u
 /// Most strakes of a wall, as the library has it.
 const MOST_STRAKES: u64 = 24;
 
+/// Words between a count and a height.
+const BETWEEN: [&str; 13] = [
+    "strakes", "strake", "rings", "ring", "courses", "course", "sheets", "viroles", "virole", "of",
+    "at", "de", "fois",
+];
+
 /// Counts and heights of strakes in another order than count x height.
 fn misplaced(value: &str, measure: &Measure) -> Option<Slip> {
     if measure.quantity != Quantity::StrakeHeight {
@@ -125,12 +131,19 @@ fn misplaced(value: &str, measure: &Measure) -> Option<Slip> {
         {
             first(b, a, unit, List::HeightFirst)
         }
-        [Token::Number(a), Token::Word(unit), Token::Times, Token::Number(b)] if is_count(b) => {
+        [Token::Number(a), Token::Word(unit), Token::Times, Token::Number(b)]
+            if is_count(b) && is_height(a, unit) =>
+        {
             first(b, a, unit, List::HeightFirst)
         }
         [Token::Number(a), Token::Word(of), Token::Number(b), Token::Word(unit)]
-        | [Token::Number(a), Token::Word(of), Token::Word(_), Token::Number(b), Token::Word(unit)]
-            if !measure.is_unit(of) && is_count(a) && is_height(b, unit) =>
+        | [Token::Number(a), Token::Word(of), Token::Word("of" | "at" | "de"), Token::Number(b), Token::Word(unit)]
+            if BETWEEN.contains(&of) && is_count(a) && is_height(b, unit) =>
+        {
+            first(a, b, unit, List::NotHeights)
+        }
+        [Token::Number(a), Token::Number(b), Token::Word(unit)]
+            if is_count(a) && is_height(b, unit) && !is_height(&format!("{a}{b}"), unit) =>
         {
             first(a, b, unit, List::NotHeights)
         }
@@ -138,13 +151,32 @@ fn misplaced(value: &str, measure: &Measure) -> Option<Slip> {
     }
 }
 
-/// A list of `COUNT x LENGTH` with each length in feet and inches.
-fn list_in_inches(value: &str, measure: &Measure) -> Option<Result<Vec<u64>, Slip>> {
+/// `2000 x 3, 1500 x 5 mm`: a height before its count in every item.
+fn turned_round(value: &str, measure: &Measure) -> Option<Slip> {
+    let is_strakes = measure.quantity == Quantity::StrakeHeight;
+    let items = items(tokens(value), value).ok().filter(|items| is_strakes && items.len() > 1)?;
+    let turned = items.iter().map(|item| {
+        let height = item.count.to_string();
+        let unit = item.unit?;
+        let count: u64 = item.number.parse().ok()?;
+        let is_height = one(&height, Some(unit), measure).is_ok_and(|n| measure.is_inside(n));
+        let is_turned = is_height && item.count > MOST_STRAKES && count <= MOST_STRAKES;
+        is_turned.then(|| format!("{count} x {height} {unit}"))
+    });
+    let turned = turned.collect::<Option<Vec<String>>>()?;
+    Some(Slip::new(List::HeightFirst).with([Mend::plain(turned.join(", "))]))
+}
+
+/// A list of `COUNT x LENGTH`, at most `most` of them, with each length in feet and inches.
+fn list_in_inches(value: &str, measure: &Measure, most: usize) -> Option<Result<Vec<u64>, Slip>> {
     let mut numbers = Vec::new();
     for part in value.split(is_separator) {
         let (count, length) = part.split_once(TIMES).unwrap_or(("1", part));
         let count = count.trim().parse().ok().filter(|count| *count as u64 <= MOST_STRAKES)?;
         match measure.in_inches(length.trim())? {
+            Ok(_) if count > most - numbers.len() => {
+                return Some(Err(Slip::new(List::TooMany(most))))
+            }
             Ok(number) => numbers.extend(std::iter::repeat_n(number, count)),
             Err(slip) => return Some(Err(within(slip, value, length.trim()))),
         }
@@ -162,10 +194,10 @@ pub fn list(value: &str, measure: &Measure, most: usize) -> Result<Vec<u64>, Sli
             _ => false,
         };
         let other = looked_at.then(|| likely::other_list(value, measure, most)).flatten();
-        other.unwrap_or_else(|| match decimals(value) {
-            Some(mended) if plain_list(&mended, measure, most).is_ok() => {
-                slip.with([Mend::plain(mended)])
-            }
+        let reads = |list: &str| plain_list(list, measure, most).is_ok();
+        let unread = !slip.mends.iter().any(|mend| reads(mend.whole()));
+        other.unwrap_or_else(|| match decimals(value).filter(|_| unread) {
+            Some(mended) if reads(&mended) => slip.with([Mend::plain(mended)]),
             _ => slip,
         })
     })
@@ -182,10 +214,11 @@ pub fn plain_list(value: &str, measure: &Measure, most: usize) -> Result<Vec<u64
     if value.is_empty() {
         return Err(Slip::new(List::NoValue));
     }
-    if let Some(read) = list_in_inches(value, measure) {
+    if let Some(read) = list_in_inches(value, measure, most) {
         return read;
     }
-    if let Some(slip) = apostrophes(value).or_else(|| misplaced(value, measure)) {
+    let misplaced = || misplaced(value, measure).or_else(|| turned_round(value, measure));
+    if let Some(slip) = apostrophes(value).or_else(misplaced) {
         return Err(slip);
     }
     let mut numbers = Vec::new();
@@ -226,9 +259,23 @@ fn plain_pair(value: &str, measure: &Measure) -> Result<(u64, u64), Slip> {
     if let Some(slip) = apostrophes(value) {
         return Err(slip);
     }
+    let in_inches = |side: &str| measure.in_inches(side.trim());
+    let feet = value.split_once(TIMES).and_then(|(a, b)| in_inches(a).zip(in_inches(b)));
+    if let Some((a, b)) = feet {
+        let of =
+            |side: Result<u64, Slip>, a: &str, b: &str| side.map_err(|slip| slip.between(a, b));
+        let (first, second) = value.split_once(TIMES).unwrap_or_default();
+        return Ok((of(a, "", &format!(" x{second}"))?, of(b, &format!("{first}x "), "")?));
+    }
     let tokens = tokens(value);
     if let Some(number) = with_comma(&tokens) {
-        return Err(within(comma(number, false), value, number));
+        let unit = tokens.iter().rev().find_map(|token| match token {
+            Token::Word(unit) => Some(*unit),
+            _ => None,
+        });
+        let slip = one(number, unit, measure).err().unwrap_or_else(|| comma(number, false));
+        let mends: Vec<Mend> = slip.mends.iter().cloned().map(Mend::alone).collect();
+        return Err(within(slip.with(mends), value, number));
     }
     match items(tokens.into_iter().map(apart).collect(), value).as_deref() {
         Ok(sides @ [_, _]) => {
