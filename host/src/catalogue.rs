@@ -70,8 +70,10 @@ fn likely(written: &str) -> Vec<&'static str> {
     let others = PRODUCTS.iter().flat_map(|row| row.others).copied();
     let left: Vec<&str> = words(written).filter(|word| !LEAVES.contains(word)).collect();
     let left = left.join(" ");
+    let exact = names.clone().chain(others.clone()).find(|name| *name == left);
     match &near(&left, names.clone())[..] {
         _ if left.contains(|c: char| c.is_ascii_digit()) => Vec::new(),
+        _ if exact.is_some() => exact.into_iter().collect(),
         [] => near(&left, others),
         near => near.to_vec(),
     }
@@ -99,10 +101,32 @@ pub enum Wall {
 const CORRUGATED: [&str; 4] = ["corrugated", "galvani", "bolted", "profiled"];
 /// The same in French, as `plain` has them.
 const FRENCH: [&str; 5] = ["ondul", "nervur", "boulonn", "acier galva", "tole galva"];
-/// Words beside these with which the wall is another, or may be.
-const OTHERWISE: [&str; 14] = [
-    "not", "no", "non", "pas", "without", "sans", "smooth", "lisse", "plain", "concrete", "beton",
-    "inside", "lined", "liner",
+/// Words beside these that leave the wall as it is. With any other it may be a smooth one.
+const LEAVES: [&str; 24] = [
+    "steel",
+    "sheet",
+    "sheets",
+    "sheeting",
+    "wall",
+    "walls",
+    "panel",
+    "panels",
+    "metal",
+    "iron",
+    "and",
+    "with",
+    "hot",
+    "dip",
+    "dipped",
+    "horizontally",
+    "vertically",
+    "acier",
+    "tole",
+    "toles",
+    "paroi",
+    "parois",
+    "et",
+    "galva",
 ];
 
 impl Wall {
@@ -110,8 +134,11 @@ impl Wall {
         let written = plain(text);
         let words: Vec<&str> = words(&written).collect();
         let spaced = format!(" {}", words.join(" "));
-        let otherwise = words.iter().any(|word| OTHERWISE.contains(word));
-        let says = |stem: &&str| !otherwise && spaced.contains(&format!(" {stem}"));
+        let stems = || CORRUGATED.iter().chain(&FRENCH);
+        let is_known =
+            |word: &&str| LEAVES.contains(word) || stems().any(|stem| word.starts_with(stem));
+        let known = words.iter().all(is_known);
+        let says = |stem: &&str| known && spaced.contains(&format!(" {stem}"));
         match &*written {
             "steel" | "smooth steel" | "acier" | "acier lisse" => Ok(Wall::Steel),
             "concrete" | "beton" | "beton arme" => Ok(Wall::Concrete),
@@ -137,7 +164,7 @@ impl Wall {
             // uncorrugated is near to corrugated
             return near(word, [WALLS[0], WALLS[1], CORRUGATED[0]].into_iter())
                 .pop()
-                .filter(|_| !word.starts_with("un"));
+                .filter(|_| !["un", "de"].iter().any(|start| word.starts_with(start)));
         }
         let [steel, concrete] = WALLS;
         match is_like(steel, &LIKE_STEEL) {

@@ -5,7 +5,7 @@ use crate::message::{List, Mend, Number, Slip};
 use crate::name::plain;
 use crate::number::{Measure, Quantity, SIDE, STRAKE};
 use crate::text::runs;
-use crate::value::{plain_list, quantity, TIMES};
+use crate::value::{plain_list, quantity, MOST_STRAKES, TIMES};
 
 /// Bytes of a value that is looked at again.
 const LONGEST: usize = 200;
@@ -13,7 +13,7 @@ const LONGEST: usize = 200;
 /// Marks round words that stand beside a number.
 const MARKS: [char; 13] = [' ', '(', ')', '~', '=', ';', ',', '/', '"', '\'', '.', ':', '-'];
 
-/// Words beside a number that leave it as it is, and those that do so beside a length: every length here is a clear one.
+/// Words beside a number that leave it as it is, and those that do so beside a diameter or side: each here is a clear one.
 const ABOUT: [&str; 9] =
     ["about", "ca", "circa", "approx", "approximately", "env", "environ", "on", "≈"];
 const INSIDE: [&str; 8] =
@@ -40,10 +40,10 @@ const BOTTOM_FIRST: [&str; 7] = [
 
 /// The words that change what is beside them, or may do so.
 fn telling<'a>(words: &'a str, measure: &Measure) -> Vec<&'a str> {
-    let is_length = measure.quantity.is_length();
+    let is_side = measure.quantity.is_length() && measure.limits == SIDE.limits;
     let leaves = |word: &str| {
         let word = plain(word);
-        let known = ABOUT.contains(&&*word) || is_length && INSIDE.contains(&&*word);
+        let known = ABOUT.contains(&&*word) || is_side && INSIDE.contains(&&*word);
         known || catalogue::is_name(&word)
     };
     let words = Some(words).filter(|words| catalogue::row(words).is_err()).unwrap_or_default();
@@ -143,17 +143,22 @@ pub fn digits_for_letters(value: &str) -> Option<String> {
 
 /// A list with other words than commas between its numbers, or with words behind them.
 pub fn other_list(value: &str, measure: &Measure, most: usize) -> Option<Slip> {
-    const BETWEEN: [&str; 6] = [" and ", " et ", " then ", "+", "&", "/"];
+    const BETWEEN: [&str; 7] = [" and ", " et ", " then ", "+", "&", " / ", "/"];
     if value.len() > LONGEST {
         return None;
     }
+    let is_strakes = measure.quantity == Quantity::StrakeHeight;
     let good = |text: &str| !text.is_empty() && plain_list(text, measure, most).is_ok();
     if let Some(mended) = digits_for_letters(value).filter(|mended| good(mended)) {
         return Some(Slip::new(List::NotHeights).with([Mend::plain(mended)]));
     }
     for between in BETWEEN {
-        let commas = value.split(between).map(str::trim).collect::<Vec<&str>>().join(", ");
-        if value.contains(between) && good(&commas) {
+        let parts: Vec<&str> = value.split(between).map(str::trim).collect();
+        // of (2 + 6) x 2 m the 2 is a count, and 1/2 m is half of one
+        let is_count = |part: &&str| part.parse().is_ok_and(|n: u64| n <= MOST_STRAKES);
+        let is_other = is_strakes && (between == "/" || parts.iter().any(is_count));
+        let commas = parts.join(", ");
+        if value.contains(between) && !is_other && good(&commas) {
             return Some(Slip::new(List::NotHeights).with([Mend::plain(commas)]));
         }
     }
@@ -163,7 +168,6 @@ pub fn other_list(value: &str, measure: &Measure, most: usize) -> Option<Slip> {
     if words.contains(|c: char| c.is_ascii_digit()) {
         return None;
     }
-    let is_strakes = measure.quantity == Quantity::StrakeHeight;
     let order = plain(words);
     if is_strakes && BOTTOM_FIRST.contains(&&*order) {
         return bottom_first(heights, most);

@@ -92,7 +92,6 @@ const NAMES: [Row; 26] = [
             "masse volumique",
             "bulk density",
             "bulk weight",
-            "test weight",
         ],
         "weight = 9.0 kN/m3",
         "1000 to 30000 N/m3",
@@ -293,7 +292,7 @@ pub const LABELS: [(Name, usize); 7] = [
 ];
 
 /// Names that a person may expect, and what says it here.
-const ELSEWHERE: [(&[&str], Elsewhere); 29] = [
+const ELSEWHERE: [(&[&str], Elsewhere); 30] = [
     (&["internal friction", "angle of internal friction"], Elsewhere::InternalFriction),
     (&["internal friction angle", "friction angle", "phi", "φ"], Elsewhere::InternalFriction),
     (&["frottement interne", "angle de frottement interne"], Elsewhere::InternalFriction),
@@ -339,6 +338,7 @@ const ELSEWHERE: [(&[&str], Elsewhere); 29] = [
     (&["factor of safety", "facteur de securite", "security factor"], Elsewhere::PartialFactor),
     (&["mean weight", "weight mean", "average weight"], Elsewhere::MeanWeight),
     (&["poids moyen", "poids volumique moyen", "measured weight"], Elsewhere::MeanWeight),
+    (&["test weight", "poids specifique", "poids a l'hectolitre"], Elsewhere::MeanWeight),
     (&["hopper angle from vertical", "hopper half angle", "half angle"], Elsewhere::FromVertical),
     (&["apex angle", "demi angle", "demi angle au sommet"], Elsewhere::FromVertical),
     (&["fill height", "filling height", "grain height"], Elsewhere::Level),
@@ -399,34 +399,44 @@ fn internal(plain: &str) -> Option<Elsewhere> {
     (says(is_friction) && says(is_own)).then_some(Elsewhere::InternalFriction)
 }
 
-/// Names of a product's numbers, and words beside them that leave them as they are. Any other may make the number another.
-const NUMBERS: [Name; 4] = [Name::Weight, Name::Ratio, Name::Friction, Name::Factor];
-const LEAVES: [&str; 16] = [
+/// Words beside a name that leave it as it is. Any other may make it another.
+const LEAVES: [&str; 22] = [
     "the",
     "of",
     "on",
-    "wall",
-    "steel",
     "unit",
     "bulk",
     "specific",
-    "upper",
     "limit",
     "coefficient",
     "coeff",
     "value",
     "product",
-    "discharge",
     "max",
+    "inside",
+    "inner",
+    "internal",
+    "clear",
+    "silo",
+    "bin",
+    "mm",
+    "first",
+    "du",
+    "height",
 ];
 
 /// A name with other words beside it that may make it another.
 pub fn is_qualified(text: &str, name: Name) -> bool {
-    let plain = plain(text);
-    let spelt = |word: &str| Name::find(word) == Some(name);
-    NUMBERS.contains(&name)
-        && words(&plain).any(spelt)
-        && words(&plain).any(|word| !spelt(word) && !LEAVES.contains(&word))
+    let plain = plain(text).replace("top first", "").replace("top down", "");
+    let row = &NAMES[name as usize];
+    let spellings = row.others.iter().chain([&row.word]);
+    let spelt: Vec<&str> = spellings.flat_map(|other| words(other)).collect();
+    let is_spelt = |word: &str| match word.chars().count() {
+        0..=3 => spelt.contains(&word),
+        _ => !near(word, spelt.iter().copied()).is_empty(),
+    };
+    let count = words(&plain).count();
+    count > 1 && words(&plain).any(|word| !LEAVES.contains(&word) && !is_spelt(word))
 }
 
 impl Name {
@@ -478,7 +488,8 @@ pub fn meant(text: &str) -> (Option<Elsewhere>, Vec<Name>) {
     match said.or_else(|| extreme(plain)).or_else(|| internal(plain)) {
         Some(elsewhere) => (Some(elsewhere), Vec::new()),
         None => {
-            let others = NAMES.iter().flat_map(|row| row.others).filter(|other| other.len() > 3);
+            let is_long = |other: &&&str| other.chars().count() > 3;
+            let others = NAMES.iter().flat_map(|row| row.others).filter(is_long);
             let close = match &close(plain, NAMES.iter().map(|row| row.word))[..] {
                 [] => self::close(plain, others.copied()),
                 words => words.to_vec(),

@@ -166,6 +166,9 @@ pub const GRAVITY: u32 = 981;
 /// Lighter is no grain, N/m3
 pub const LIGHTEST: u64 = 4000;
 
+/// Heavier is none, N/m3
+const HEAVIEST: u64 = 9500;
+
 /// Hundredths by which a measured mean weight is raised at least (7.3.1).
 const RAISED: u64 = 115;
 
@@ -338,7 +341,10 @@ impl Measure {
             _ => false,
         };
         let (unit, slip) = slips.find(|(_, slip)| is_grain(slip))?;
-        Some(slip.at(format!("{number} {unit}")))
+        // as many lb/ft3 may be grain too, and heavier
+        let pounds = self.instead(decimal, "lb/ft3").map(|slip| *slip.what);
+        let is_other = matches!(pounds, Some(What::Number(Number::Mass(LIGHTEST..=HEAVIEST))));
+        Some(slip.at(format!("{number} {unit}"))).filter(|_| unit != "kg/hl" || !is_other)
     }
 
     /// The sheet's unit.

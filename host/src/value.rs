@@ -2,7 +2,7 @@
 
 mod list;
 
-pub use list::{list, pair, plain_list};
+pub use list::{list, pair, plain_list, MOST_STRAKES};
 
 use crate::likely;
 use crate::message::{Mend, Number, Reading, Slip, What};

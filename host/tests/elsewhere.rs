@@ -42,7 +42,23 @@ fn what_a_text_does_not_have_is_answered() {
 
 /// A slip, and what its fixes begin with: the careful one first, and no lighter one beside it.
 type Slip = (&'static [(&'static str, &'static str)], &'static [&'static str]);
-const CAREFUL: [Slip; 27] = [
+const CAREFUL: [Slip; 34] = [
+    (&[("headroom", "1.9 m"), ("grain height", "10 m")], &[]),
+    (&[("headroom", "1 m"), ("grain height", "9 m")], &["# grain height = 9 m"]),
+    (
+        &[
+            ("phi", "45 deg"),
+            ("product", "wheat"),
+            ("weight", "-"),
+            ("ratio", "-"),
+            ("factor", "-"),
+        ],
+        &["factor = 1.65"],
+    ),
+    (&[("weight", "48")], &[]),
+    (&[("strakes", "2 + 6 x 2 m")], &[]),
+    (&[("strakes", "2 1 m")], &["strakes = 2, 1 m"]),
+    (&[("outlet eccentricity", "500 mm diameter")], &[]),
     (&[("weight", "9 to 7 kN/m3")], &["weight = 9000 N/m3"]),
     (&[("weight", "80-76 kg/hl")], &["weight = 9026 N/m3"]),
     (&[("weight", "1600")], &["weight = 18051 N/m3"]),
@@ -99,6 +115,30 @@ fn no_product_is_guessed() {
     }
 }
 
+/// Words beside corrugated that may make the wall a smooth one: no such wall is read, and none offered.
+#[test]
+fn no_wall_is_guessed() {
+    for wall in [
+        "smooth steel, not corrugated",
+        "acier non ondulé",
+        "bolted smooth steel",
+        "isn't corrugated",
+        "bolted flat panels",
+        "tôle plate galvanisée",
+        "corrugated or steel",
+        "steel, corrugated roof",
+        "uncorrugated",
+        "decorrugated",
+    ] {
+        let messages = text::read(&text_with(&[("wall", wall)])).expect_err(wall);
+        assert_eq!(messages[0].fixes, Vec::<String>::new(), "{wall}");
+    }
+    for wall in ["corrugated", "bolted galvanised steel sheets", "tôle ondulée", "acier galvanisé"]
+    {
+        assert!(text::read(&text_with(&[("wall", wall)])).is_ok(), "{wall}");
+    }
+}
+
 /// Names with words beside them that may make them another number.
 #[test]
 fn no_qualified_name_is_guessed() {
@@ -108,6 +148,16 @@ fn no_qualified_name_is_guessed() {
         ("friction of sand", "friction"),
         ("min weight", "weight"),
         ("factor of safety", "factor"),
+        ("Ch", "factor"),
+        ("test weight", "weight"),
+        ("strakes upward", "strakes"),
+        ("bottom strakes", "strakes"),
+        ("strakes 1", "strakes"),
+        ("hopper diameter", "diameter"),
+        ("half diameter", "diameter"),
+        ("min diameter", "diameter"),
+        ("headroom below hopper", "headroom"),
+        ("outlet eccentricity 1", "outlet eccentricity"),
     ] {
         let messages = text::read(&text_with(&[(of, "-"), (name, "1.2")])).expect_err(name);
         let fixes = messages.iter().flat_map(|message| &message.fixes);

@@ -259,6 +259,8 @@ pub enum Elsewhere {
     NoHopper,
     /// The grain's height, up to the wall's.
     Level,
+    /// Wall less headroom make so many mm, and more is said.
+    OtherLevel(u64),
     UnknownLevel,
     /// Grain above the line where it meets the wall.
     Heap,

@@ -315,29 +315,23 @@ fn choice(what: &Choice, mends: &[Mend]) -> String {
 
 fn elsewhere(elsewhere: Elsewhere) -> String {
     let words = match elsewhere {
-        Elsewhere::Height => "the wall's height is the sum of its strakes; leave the line out",
-        Elsewhere::OtherHeight(wall) => {
-            return format!("the wall's height is the sum of its strakes, and that is {wall} mm; which is right?")
+        Elsewhere::Height | Elsewhere::OtherHeight(_) | Elsewhere::UnknownHeight => {
+            return height(elsewhere)
         }
-        Elsewhere::UnknownHeight => "the wall's height is the sum of its strakes",
+        Elsewhere::Level | Elsewhere::OtherLevel(_) | Elsewhere::UnknownLevel => {
+            return level(elsewhere)
+        }
+        Elsewhere::InternalFriction | Elsewhere::GreaterFactor(_) | Elsewhere::UnknownAngle => {
+            return internal_friction(elsewhere)
+        }
+        Elsewhere::MeanFriction => return mean_alone(Name::Friction),
+        Elsewhere::MeanRatio => return mean_alone(Name::Ratio),
         Elsewhere::Width => "write diameter = 5000 mm or sides = 4000 x 6000 mm",
         Elsewhere::Radius => "a circle is said by its diameter, twice the radius",
-        Elsewhere::InternalFriction => {
-            "the angle of internal friction is not the friction on the wall; it gives the factor C0 (7.4), which is there and no smaller; leave the line out"
-        }
-        Elsewhere::GreaterFactor(factor) => {
-            let factor = hundredths(factor);
-            return format!("the angle of internal friction is not the friction on the wall; it gives the factor C0 (7.4): write factor = {factor}");
-        }
-        Elsewhere::UnknownAngle => {
-            "internal friction is not the friction on the wall; its angle gives the factor C0, 1.35 + 0.02 for each degree over 30 (7.4)"
-        }
         Elsewhere::CountOfStrakes => "count and height stand in one line, as strakes = 8 x 1200 mm",
         Elsewhere::TopFirst => "strakes are listed top first; write strakes and turn the list round",
         Elsewhere::Nothing => "no load rests on it; leave the line out, or write it behind #",
         Elsewhere::NoHopper => "without a hopper write floor = flat",
-        Elsewhere::MeanFriction => return mean_alone(Name::Friction),
-        Elsewhere::MeanRatio => return mean_alone(Name::Ratio),
         Elsewhere::Bottom => "write floor = flat, or a hopper by hopper height and hopper run",
         Elsewhere::Heap => {
             "grain is taken as level: raked flat, at the brim or below it by a line headroom; a heap that would lie above the brim is not covered, and without it the loads are too low"
@@ -351,14 +345,41 @@ fn elsewhere(elsewhere: Elsewhere) -> String {
         Elsewhere::FromVertical => {
             "hopper angle is from the horizontal: 90 degrees less the one from the vertical"
         }
-        Elsewhere::Level => {
-            "the grain is taken as level with the brim, or below it by a line headroom; leave the line out"
-        }
-        Elsewhere::UnknownLevel => {
-            "the grain is taken as level with the brim, or below it by a line headroom"
-        }
     };
     words.to_string()
+}
+
+fn height(elsewhere: Elsewhere) -> String {
+    let sum = "the wall's height is the sum of its strakes";
+    match elsewhere {
+        Elsewhere::OtherHeight(wall) => format!("{sum}, and that is {wall} mm; which is right?"),
+        Elsewhere::UnknownHeight => sum.to_string(),
+        _ => format!("{sum}; leave the line out"),
+    }
+}
+
+fn level(elsewhere: Elsewhere) -> String {
+    let level = "the grain is taken as level with the brim, or below it by a line headroom";
+    match elsewhere {
+        Elsewhere::OtherLevel(grain) => format!(
+            "the grain's height is the wall's less the headroom, and that is {grain} mm; which is right?"
+        ),
+        Elsewhere::UnknownLevel => level.to_string(),
+        _ => format!("{level}; leave the line out"),
+    }
+}
+
+fn internal_friction(elsewhere: Elsewhere) -> String {
+    let angle = "the angle of internal friction is not the friction on the wall; it gives the factor C0 (7.4)";
+    match elsewhere {
+        Elsewhere::GreaterFactor(factor) => {
+            format!("{angle}: write factor = {}", hundredths(factor))
+        }
+        Elsewhere::UnknownAngle => {
+            format!("{angle}, 1.35 and 0.02 more for each degree over 30")
+        }
+        _ => format!("{angle}, which is there and no smaller; leave the line out"),
+    }
 }
 
 /// What says the same as a name that is unknown.

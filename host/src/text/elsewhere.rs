@@ -2,19 +2,23 @@
 
 use super::read::{mended, Reader};
 use crate::catalogue::{self, Origin};
-use crate::description::{BLANK_FACTOR, MOST_STRAKES};
+use crate::description::{Product, BLANK_FACTOR, MOST_STRAKES};
 use crate::message::{self, Elsewhere, Mend, Slip};
 use crate::name::Name;
-use crate::number::{hundredths, ANGLE, FACTOR, LENGTH, STRAKE, WEIGHT};
+use crate::number::{hundredths, ANGLE, FACTOR, HEADROOM, LENGTH, STRAKE, WEIGHT};
 use crate::value;
 
 impl Reader {
+    /// Table 7.1's numbers of the text's product.
+    fn table(&self) -> Option<Product> {
+        let row = catalogue::row(&self.entry(Name::Product)?.value).ok()?;
+        Origin::numbers(row, None).ok()
+    }
+
     /// The weight of the text's product in table 7.1 is at least this one.
     pub(super) fn is_lighter_than_table(&self, mends: &[Mend]) -> bool {
-        let row = self.entry(Name::Product).and_then(|line| catalogue::row(&line.value).ok());
-        let table = row.and_then(|row| Origin::numbers(row, None).ok());
         let weight = |mend: &Mend| value::quantity(mend.whole(), &WEIGHT).ok();
-        table.is_some_and(|table| {
+        self.table().is_some_and(|table| {
             mends.iter().filter_map(weight).all(|weight| weight <= table.weight.into())
         })
     }
@@ -40,22 +44,24 @@ impl Reader {
                 (Some(_), Some(_)) => (elsewhere, None),
                 _ => (Elsewhere::UnknownHeight, None),
             },
-            Elsewhere::Level => match (length(), self.wall_height()) {
-                (Some(said), Some(wall)) if said <= wall => (elsewhere, None),
-                (Some(_), Some(_)) => (Elsewhere::Heap, None),
+            Elsewhere::Level => match (length(), self.wall_height(), self.headroom_read()) {
+                (Some(said), Some(wall), _) if said > wall => (Elsewhere::Heap, None),
+                (Some(said), Some(wall), Some(headroom)) if said + headroom > wall => {
+                    (Elsewhere::OtherLevel(wall.saturating_sub(headroom)), None)
+                }
+                (Some(_), Some(_), Some(_)) => (elsewhere, None),
                 _ => (Elsewhere::UnknownLevel, None),
             },
             _ => self.judged_angle(value),
         }
     }
 
-    /// By 7.4 an angle of internal friction gives the factor, unless table 7.1 does.
+    /// By 7.4 an angle of internal friction gives the factor.
     fn judged_angle(&self, value: &str) -> (Elsewhere, Option<Mend>) {
         let angle = value::quantity(value, &ANGLE).ok();
         let factor = self.entry(Name::Factor).map(|line| line.value.as_str());
         let used = match factor {
-            None if self.has(Name::Product) => return (Elsewhere::InternalFriction, None),
-            None => Ok(0),
+            None => Ok(self.table().map_or(0, |table| table.factor.into())),
             Some("") => Ok(u64::from(BLANK_FACTOR)),
             Some(factor) => value::quantity(factor, &FACTOR),
         };
@@ -68,6 +74,14 @@ impl Reader {
                 (Elsewhere::GreaterFactor(due), Some(mend).filter(|_| factor.is_none()))
             }
             _ => (Elsewhere::UnknownAngle, None),
+        }
+    }
+
+    /// The headroom, mm, where it can be read; without a line or left blank it is 0.
+    fn headroom_read(&self) -> Option<u64> {
+        match self.entry(Name::Headroom).map(|line| line.value.as_str()) {
+            None | Some("") => Some(0),
+            Some(value) => value::quantity(value, &HEADROOM).ok(),
         }
     }
 

@@ -100,7 +100,7 @@ fn one_of(items: &[Item], at: usize, value: &str, measure: &Measure) -> Result<u
 }
 
 /// Most strakes of a wall, as the library has it.
-const MOST_STRAKES: u64 = 24;
+pub const MOST_STRAKES: u64 = 24;
 
 /// Words between a count and a height.
 const BETWEEN: [&str; 13] = [
@@ -143,7 +143,10 @@ fn misplaced(value: &str, measure: &Measure) -> Option<Slip> {
             first(a, b, unit, List::NotHeights)
         }
         [Token::Number(a), Token::Number(b), Token::Word(unit)]
-            if is_count(a) && is_height(b, unit) && !is_height(&format!("{a}{b}"), unit) =>
+            if is_count(a)
+                && is_height(b, unit)
+                && !is_height(a, unit)
+                && !is_height(&format!("{a}{b}"), unit) =>
         {
             first(a, b, unit, List::NotHeights)
         }
