@@ -400,7 +400,7 @@ fn internal(plain: &str) -> Option<Elsewhere> {
 }
 
 /// Words beside a name that leave it as it is. Any other may make it another.
-const LEAVES: [&str; 22] = [
+const LEAVES: [&str; 20] = [
     "the",
     "of",
     "on",
@@ -412,7 +412,6 @@ const LEAVES: [&str; 22] = [
     "coeff",
     "value",
     "product",
-    "max",
     "inside",
     "inner",
     "internal",
@@ -420,7 +419,6 @@ const LEAVES: [&str; 22] = [
     "silo",
     "bin",
     "mm",
-    "first",
     "du",
     "height",
 ];

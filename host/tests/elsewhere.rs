@@ -157,6 +157,8 @@ fn no_qualified_name_is_guessed() {
         ("half diameter", "diameter"),
         ("min diameter", "diameter"),
         ("headroom below hopper", "headroom"),
+        ("max headroom", "headroom"),
+        ("first strakes", "strakes"),
         ("outlet eccentricity 1", "outlet eccentricity"),
     ] {
         let messages = text::read(&text_with(&[(of, "-"), (name, "1.2")])).expect_err(name);

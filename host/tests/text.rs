@@ -538,8 +538,17 @@ fn time_of(text: &str) -> Duration {
 /// words. It would be 256 times with each place looked at once for every other.
 #[test]
 fn long_texts_take_no_longer_than_they_are() {
-    const LINES: [&str; 6] =
-        ["a=\n", "=\n", "a\n", "diamtr = 5 m\n", "diameter = 5 m\n", "\u{200b}\n"];
+    const LINES: [&str; 9] = [
+        "a=\n",
+        "=\n",
+        "a\n",
+        "diamtr = 5 m\n",
+        "diameter = 5 m\n",
+        "\u{200b}\n",
+        "h = 9 m\n",
+        "phi = 45 deg\n",
+        "grain level of the silo = 9 m\n",
+    ];
     const WORDS: [&str; 7] =
         ["a ", "diameter: ", ":", "diameter = 1 / ", "strakes = 1,", "depths = 0 - ", "m"];
     let repeated = |part: &str, bytes: usize| part.repeat(bytes / part.len());
@@ -552,7 +561,10 @@ fn long_texts_take_no_longer_than_they_are() {
     let lists = ["strakes = ", "depths = "].map(|name| {
         [12_500, 200_000].map(|bytes| name.to_string() + &repeated("24 x 65 ft,", bytes) + " 5 ft")
     });
-    let others = lists.into_iter().chain([[4_000, 64_000].map(spaced)]);
+    let judged = [6_250, 100_000].map(|bytes| {
+        repeated("h = 9 m\n", bytes) + "strakes = " + &repeated("1 x 2 m,", bytes) + " 2 m"
+    });
+    let others = lists.into_iter().chain([[4_000, 64_000].map(spaced), judged]);
     for [short, long] in pairs.into_iter().chain(words).chain(others) {
         let [short_time, time] = [&short, &long].map(|text| time_of(text));
         let most = 64 * short_time.max(Duration::from_millis(1));

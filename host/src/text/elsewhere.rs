@@ -26,8 +26,13 @@ impl Reader {
     /// The wall's height, the grain's, or an angle of internal friction: what the lines of the silo make of it. A line that says more
     /// than they do is not to be left out.
     pub(super) fn judge_elsewhere(&mut self) {
-        for (elsewhere, word, line) in std::mem::take(&mut self.elsewhere) {
-            let (elsewhere, mend) = self.judged(elsewhere, &line.value);
+        let lines = std::mem::take(&mut self.elsewhere);
+        if lines.is_empty() {
+            return;
+        }
+        let known = self.known();
+        for (elsewhere, word, line) in lines {
+            let (elsewhere, mend) = known.judged(elsewhere, &line.value);
             self.meant.extend(elsewhere.name());
             let mut fixes = mended(&line, mend.as_slice());
             fixes.extend(elsewhere.is_too_much().then(|| line.left_out()));
@@ -36,15 +41,46 @@ impl Reader {
         }
     }
 
+    fn known(&self) -> Known {
+        let value = |name| self.entry(name).map(|line| line.value.as_str());
+        let strakes = value(Name::Strakes).map(|list| value::list(list, &STRAKE, MOST_STRAKES));
+        Known {
+            wall: strakes.and_then(|heights| Some(heights.ok()?.iter().sum())),
+            headroom: match value(Name::Headroom) {
+                None | Some("") => Some(0),
+                Some(value) => value::quantity(value, &HEADROOM).ok(),
+            },
+            factor: match value(Name::Factor) {
+                None => Some(self.table().map_or(0, |table| table.factor.into())),
+                Some("") => Some(BLANK_FACTOR.into()),
+                Some(value) => value::quantity(value, &FACTOR).ok(),
+            },
+            has_factor: self.has(Name::Factor),
+        }
+    }
+}
+
+/// What the lines of a silo say, as far as they can be read.
+struct Known {
+    /// The sum of the strakes, mm
+    wall: Option<u64>,
+    /// mm; 0 without a line or left blank
+    headroom: Option<u64>,
+    /// That of its line or of table 7.1, hundredths; 0 where there is none.
+    factor: Option<u64>,
+    has_factor: bool,
+}
+
+impl Known {
     fn judged(&self, elsewhere: Elsewhere, value: &str) -> (Elsewhere, Option<Mend>) {
         let length = || value::quantity(value, &LENGTH).ok();
         match elsewhere {
-            Elsewhere::Height => match (length(), self.wall_height()) {
+            Elsewhere::Height => match (length(), self.wall) {
                 (Some(said), Some(wall)) if said != wall => (Elsewhere::OtherHeight(wall), None),
                 (Some(_), Some(_)) => (elsewhere, None),
                 _ => (Elsewhere::UnknownHeight, None),
             },
-            Elsewhere::Level => match (length(), self.wall_height(), self.headroom_read()) {
+            Elsewhere::Level => match (length(), self.wall, self.headroom) {
                 (Some(said), Some(wall), _) if said > wall => (Elsewhere::Heap, None),
                 (Some(said), Some(wall), Some(headroom)) if said + headroom > wall => {
                     (Elsewhere::OtherLevel(wall.saturating_sub(headroom)), None)
@@ -59,35 +95,15 @@ impl Reader {
     /// By 7.4 an angle of internal friction gives the factor.
     fn judged_angle(&self, value: &str) -> (Elsewhere, Option<Mend>) {
         let angle = value::quantity(value, &ANGLE).ok();
-        let factor = self.entry(Name::Factor).map(|line| line.value.as_str());
-        let used = match factor {
-            None => Ok(self.table().map_or(0, |table| table.factor.into())),
-            Some("") => Ok(u64::from(BLANK_FACTOR)),
-            Some(factor) => value::quantity(factor, &FACTOR),
-        };
         // 1.35 + 0.02 (phi - 30), at least 1.35
         let due = angle.map(|thousandths| (75 + thousandths.div_ceil(500)).max(135));
-        match (due, used) {
-            (Some(due), Ok(used)) if due <= used => (Elsewhere::InternalFriction, None),
+        match (due, self.factor) {
+            (Some(due), Some(factor)) if due <= factor => (Elsewhere::InternalFriction, None),
             (Some(due), _) if FACTOR.is_inside(due) => {
                 let mend = Mend::plain(hundredths(due)).of_line(Name::Factor);
-                (Elsewhere::GreaterFactor(due), Some(mend).filter(|_| factor.is_none()))
+                (Elsewhere::GreaterFactor(due), Some(mend).filter(|_| !self.has_factor))
             }
             _ => (Elsewhere::UnknownAngle, None),
         }
-    }
-
-    /// The headroom, mm, where it can be read; without a line or left blank it is 0.
-    fn headroom_read(&self) -> Option<u64> {
-        match self.entry(Name::Headroom).map(|line| line.value.as_str()) {
-            None | Some("") => Some(0),
-            Some(value) => value::quantity(value, &HEADROOM).ok(),
-        }
-    }
-
-    /// The sum of the strakes, mm, where they can be read.
-    fn wall_height(&self) -> Option<u64> {
-        let line = self.entry(Name::Strakes)?;
-        Some(value::list(&line.value, &STRAKE, MOST_STRAKES).ok()?.iter().sum())
     }
 }

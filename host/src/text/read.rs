@@ -202,7 +202,7 @@ impl Reader {
     }
 
     fn is_full(&self) -> bool {
-        self.messages.len() >= MOST_MESSAGES
+        self.messages.len() + self.elsewhere.len() >= MOST_MESSAGES
     }
 
     /// A slip of the value of a name's line.

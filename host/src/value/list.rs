@@ -256,19 +256,22 @@ pub fn pair(value: &str, measure: &Measure) -> Result<(u64, u64), Slip> {
     })
 }
 
+/// Both sides in feet and inches.
+fn pair_in_inches(value: &str, measure: &Measure) -> Option<Result<(u64, u64), Slip>> {
+    let (a, b) = value.split_once(TIMES)?;
+    let first = measure.in_inches(a.trim())?.map_err(|slip| slip.between("", &format!(" x{b}")));
+    let second = measure.in_inches(b.trim())?.map_err(|slip| slip.between(&format!("{a}x "), ""));
+    Some(first.and_then(|first| Ok((first, second?))))
+}
+
 /// The same, as it stands.
 fn plain_pair(value: &str, measure: &Measure) -> Result<(u64, u64), Slip> {
     let apart = |token| if token == Token::Times { Token::Separator } else { token };
     if let Some(slip) = apostrophes(value) {
         return Err(slip);
     }
-    let in_inches = |side: &str| measure.in_inches(side.trim());
-    let feet = value.split_once(TIMES).and_then(|(a, b)| in_inches(a).zip(in_inches(b)));
-    if let Some((a, b)) = feet {
-        let of =
-            |side: Result<u64, Slip>, a: &str, b: &str| side.map_err(|slip| slip.between(a, b));
-        let (first, second) = value.split_once(TIMES).unwrap_or_default();
-        return Ok((of(a, "", &format!(" x{second}"))?, of(b, &format!("{first}x "), "")?));
+    if let Some(sides) = pair_in_inches(value, measure) {
+        return sides;
     }
     let tokens = tokens(value);
     if let Some(number) = with_comma(&tokens) {
