@@ -1,5 +1,7 @@
 pub mod LengthLaws
 pub mod Stores
+pub mod PlaceLaws
+pub mod Placing
 pub mod Places
 pub mod SameRecords
 pub mod Demand

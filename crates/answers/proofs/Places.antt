@@ -1,6 +1,6 @@
 -- Where each number stands in the answer list: eight a depth, ten for the bottom, one a strake.
 -- Assumes nothing.
-use Prim.Native.Nat.{ℕ, zero, suc, _+_, _-_, _*_, _/_, _%_, _<_}
+use Prim.Native.Nat.{ℕ, zero, suc, _+_, _-_, _*_, _<_}
 use mathlib.Core.Path.{_≡_, refl, ap, sym, _∙_, subst}
 use mathlib.Core.Bool.{Bool, true, false, cond}
 use mathlib.Core.List.{List}
@@ -20,14 +20,15 @@ use Rattle.loads.specs.Load.Load.{listed-depth, p-hf, p-wf, p-vf, P-w, p-he, p-
 use Rattle.loads.specs.program.Basis.{depth-numbers}
 use Rattle.answers.specs.Place.{load-place, bottom-place, strake-place}
 use Rattle.answers.specs.Length.{length-due}
-use Rattle.answers.specs.Answers.{silo-of, depth, bottom-in, strake-in, Filled}
-use Rattle.answers.specs.Order.{load-in}
-use Rattle.answers.specs.program.Fill.{at-strake, at-depth, depths-part, bottom-part, strakes-part, answers}
+use Rattle.answers.specs.Answers.{silo-of, depth, bottom-in, strake-in, FilledBy, Filled}
+use Rattle.answers.specs.Order.{rank}
+use Rattle.answers.specs.program.Fill.{at-strake, number-of, depths-part, bottom-part, strakes-part, answers}
 use Rattle.answers.proofs.Stores.{each-length, part-at}
+use Rattle.answers.proofs.PlaceLaws.{load-under, load-every, placed-length, placed-at}
 
-pub length-at-depth : (s : List ℕ) (i : ℕ) → length (at-depth s i) ≡ 8
+pub numbers-length : (c : Silo) (x : ℕ) → length (depth-numbers c x) ≡ 8
 unfolding depth-numbers
-length-at-depth s i = refl
+numbers-length c x = refl
 
 -- a property of each of a depth's eight
 by-eight : (E : ℕ → Type 0) → E 0 → E 1 → E 2 → E 3 → E 4 → E 5 → E 6 → E 7 → (r : ℕ) → r < 8 → E r
@@ -56,7 +57,7 @@ module _ (s : List ℕ) where
   c = silo-of s
 
   pub length-depths-part : length (depths-part s) ≡ 8 * depth-count s
-  length-depths-part = each-length (at-depth s) 8 (length-at-depth s) 0 (depth-count s)
+  length-depths-part = placed-length (depth-count s) (number-of s)
 
   pub length-bottom-part : length (bottom-part s) ≡ 10
   unfolding bottom-numbers
@@ -74,8 +75,8 @@ module _ (s : List ℕ) where
   load-at : (r i : ℕ) → r < 8 → i < depth-count s → getD (answers s) (load-place (depth-count s) r i) 0 ≡ load-number computed c (getD eight r listed-depth) (depth s i)
   unfolding answers
   load-at r i l h =
-      List·getD-append (depths-part s) _ 0 (8 * i + r) (omega (arith, length-depths-part))
-      ∙ part-at (at-depth s) 8 (length-at-depth s) (depth-count s) (8 * i + r) i r refl h l
+      List·getD-append (depths-part s) _ 0 (load-place (depth-count s) r i) (omega (arith, length-depths-part, load-under (depth-count s) r i l h))
+      ∙ placed-at (depth-count s) (number-of s) r i l h
       ∙ numbered c (depth s i) r l
 
   -- number k of the bottom
@@ -103,8 +104,8 @@ module _ (s : List ℕ) where
   answers-filled = record { sized = length-answers; at-depths = load-at; at-bottom = bottom-at; at-strakes = strake-at }
 
 -- a load by its name
-pub at-load : {f : FillingNumbers} {s list : List ℕ} → Filled f s list → (l : Load) (i : ℕ) → i < depth-count s
-    → load-in s list l i ≡ load-number f (silo-of s) l (depth s i)
+pub at-load : {place : ℕ → ℕ → ℕ → ℕ} {f : FillingNumbers} {s list : List ℕ} → FilledBy place f s list → (l : Load) (i : ℕ) → i < depth-count s
+    → getD list (place (depth-count s) (rank l) i) 0 ≡ load-number f (silo-of s) l (depth s i)
 at-load a listed-depth i h = a .at-depths 0 i (omega arith) h
 at-load a p-hf i h = a .at-depths 1 i (omega arith) h
 at-load a p-wf i h = a .at-depths 2 i (omega arith) h
@@ -130,12 +131,7 @@ pub every-place : (s : List ℕ) (E : ℕ → Type 0) → ((r i : ℕ) → r < 8
     → (i : ℕ) → i < length-due s → E i
 unfolding length-due
 every-place s E depths bottom strakes =
-    by-parts E (8 * depth-count s + 10) (strake-count s) (by-parts E (8 * depth-count s) 10 at-load bottom) strakes
-  where
-    at-load : (i : ℕ) → i < 8 * depth-count s → E i
-    at-load i h =
-        let at : 8 * (i / 8) + i % 8 ≡ i = omega arith in
-        subst E at (depths (i % 8) (i / 8) (omega arith) (omega arith))
+    by-parts E (8 * depth-count s + 10) (strake-count s) (by-parts E (8 * depth-count s) 10 (load-every (depth-count s) E depths) bottom) strakes
 
 -- so `Filled` leaves no number of the list open
 pub filled-once : (f : FillingNumbers) (s l l' : List ℕ) → Filled f s l → Filled f s l' → l ≡ l'

@@ -2,7 +2,7 @@
 -- Assumes nothing.
 use Prim.Native.Nat.{ℕ, zero, suc, _+_, _-_, _*_, _≤_, _<_}
 use mathlib.Core.Path.{_≡_, refl, ap, sym, _∙_}
-use mathlib.Core.List.{List, _++_, append-assoc}
+use mathlib.Core.List.{List, [], _∷_, _++_, append-assoc}
 use native.Mathlib.Nat.{add-zero, add-suc, suc-add, zero-add, not-suc-le-zero, le-of-suc-le-suc}
 use native.Mathlib.Numerals.{add-one}
 use native.Mathlib.Omega.{arith}
@@ -10,6 +10,7 @@ use lib.ListN.{length, getD, length-append, List·getD-append}
 use lib.Seq.{sets, getD-append-add}
 use Rattle.records.proofs.Stores.{sets-append}
 use Rattle.answers.specs.Each.{each}
+use Rattle.answers.specs.program.Fill.{grid}
 
 -- a run of stores of a part for each index: its next, and its end
 module _ (F : ℕ → List ℕ) where
@@ -46,6 +47,23 @@ module _ (F : ℕ → List ℕ) where
 
     pub part-at : (n at i j : ℕ) → at ≡ w * i + j → i < n → j < w → getD (each F 0 n) at 0 ≡ getD (F i) j 0
     part-at n at i j e h g = rw e (each-at 0 n i j h g ∙ rw zero-add)
+
+-- a list of a times b numbers, each found by its x and y
+module _ (a b : ℕ) (number : ℕ → ℕ → ℕ) where
+  abbrev line : ℕ → List ℕ
+  line x = each (λ (y : ℕ). number x y ∷ []) 0 b
+
+  line-length : (x : ℕ) → length (line x) ≡ b
+  line-length x = omega (arith, each-length (λ (y : ℕ). number x y ∷ []) 1 (λ y. refl) 0 b)
+
+  pub grid-length : length (grid a b number) ≡ b * a
+  unfolding grid
+  grid-length = each-length line b line-length 0 a
+
+  pub grid-at : (x y : ℕ) → x < a → y < b → getD (grid a b number) (b * x + y) 0 ≡ number x y
+  unfolding grid
+  grid-at x y h g =
+      part-at line b line-length a (b * x + y) x y refl h g ∙ part-at (λ (y : ℕ). number x y ∷ []) 1 (λ y. refl) b y y 0 (omega arith) g (omega arith)
 
 -- equal parts
 pub each-same : (F G : ℕ → List ℕ) (k n : ℕ) → ((i : ℕ) → k ≤ i → i < k + n → F i ≡ G i) → each F k n ≡ each G k n

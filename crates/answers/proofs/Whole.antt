@@ -19,6 +19,7 @@ use Rattle.sheet.proofs.Acceptance.{accepted}
 use Rattle.sheet.proofs.Described.{V-most}
 use Rattle.loads.specs.program.Basis.{basis-for, Reached, Fits, Sound}
 use Rattle.loads.specs.declared.Basis.{Basis}
+use Rattle.answers.specs.Place.{bottom-place}
 use Rattle.answers.specs.Length.{length-due}
 use Rattle.answers.specs.Answers.{silo-of, depth}
 use Rattle.answers.specs.program.Fill.{silo-in, basis-of, depths-part, bottom-part, strakes-part, answers}
@@ -33,17 +34,17 @@ module _ (s : List ℕ) where
   room n e = e
 
   -- the three runs of stores
-  pub whole-list : (l l₁ l₂ l₃ : List ℕ) (n : ℕ) → n ≡ depth-count s → length l ≡ length-due s → l₁ ≡ sets l 0 (depths-part s)
-      → l₂ ≡ sets l₁ (8 * n) (bottom-part s) → l₃ ≡ sets l₂ (8 * n + 10) (strakes-part s) → l₃ ≡ answers s
+  pub whole-list : (l l₁ l₂ l₃ : List ℕ) (at : ℕ) → at ≡ bottom-place (depth-count s) 0 → length l ≡ length-due s → l₁ ≡ sets l 0 (depths-part s)
+      → l₂ ≡ sets l₁ at (bottom-part s) → l₃ ≡ sets l₂ (at + 10) (strakes-part s) → l₃ ≡ answers s
   unfolding answers
-  whole-list l l₁ l₂ l₃ n m h e₁ e₂ e₃ =
-      let at : 8 * n ≡ 0 + length (depths-part s) = omega (arith, length-depths-part s) in
-      let below : 8 * n + 10 ≡ 0 + length (depths-part s) + length (bottom-part s) = omega (arith, length-depths-part s, length-bottom-part s) in
+  whole-list l l₁ l₂ l₃ at m h e₁ e₂ e₃ =
+      let behind : at ≡ 0 + length (depths-part s) = omega (arith, m, length-depths-part s) in
+      let below : at + 10 ≡ 0 + length (depths-part s) + length (bottom-part s) = omega (arith, m, length-depths-part s, length-bottom-part s) in
       sym
       (sym (sets-whole l (answers s) (length-answers s ∙ sym h))
       ∙ sets-append l 0 (depths-part s) (bottom-part s ++ strakes-part s)
       ∙ sets-append (sets l 0 (depths-part s)) (0 + length (depths-part s)) (bottom-part s) (strakes-part s)
-      ∙ rw (e₃, e₂, e₁, below, at) refl)
+      ∙ rw (e₃, e₂, e₁, below, behind) refl)
 
   -- the silo described is the sheet's
   silo-described : silo-in (described-of s) ≡ silo-of s

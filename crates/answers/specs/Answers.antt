@@ -39,14 +39,17 @@ bottom-in s list k = getD list (bottom-place (depth-count s) k) 0
 abbrev pub strake-in : List ℕ → List ℕ → ℕ → ℕ
 strake-in s list k = getD list (strake-place (depth-count s) k) 0
 
--- the list has the length due, and each number in its place
-pub record Filled (f : FillingNumbers) (s list : List ℕ) : Type 0 where
+-- the list has the length due, and each number in its place, those of the depths by an order of theirs
+pub record FilledBy (place : ℕ → ℕ → ℕ → ℕ) (f : FillingNumbers) (s list : List ℕ) : Type 0 where
   pub sized : length list ≡ length-due s
   pub at-depths : (r i : ℕ) → r < 8 → i < depth-count s
-      → getD list (load-place (depth-count s) r i) 0 ≡ load-number f (silo-of s) (getD eight r listed-depth) (depth s i)
+      → getD list (place (depth-count s) r i) 0 ≡ load-number f (silo-of s) (getD eight r listed-depth) (depth s i)
   pub at-bottom : (k : ℕ) → k < 10 → bottom-in s list k ≡ getD (bottom-numbers f (silo-of s)) k 0
   -- p_he at the strake's lower edge
   pub at-strakes : (k : ℕ) → k < strake-count s → strake-in s list k ≡ load-number f (silo-of s) p-he (edge-of s (suc k))
+
+abbrev pub Filled : FillingNumbers → List ℕ → List ℕ → Type 0
+Filled = FilledBy load-place
 
 -- the rules of the load call, lent a list of so many numbers: those of the sheet, then 14
 unfoldable pub loads-rules : List ℕ → ℕ → List Rule

@@ -2,7 +2,7 @@
 use Prim.Native.Nat.{ℕ, _+_, _*_}
 
 -- number r of the eight of the depth i, of n that are listed
-abbrev pub load-place : ℕ → ℕ → ℕ → ℕ
+unfoldable pub load-place : ℕ → ℕ → ℕ → ℕ
 load-place n r i = 8 * i + r
 
 -- number k of the bottom, k = 0 to 9

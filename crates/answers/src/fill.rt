@@ -11,7 +11,9 @@ ghost use Rattle.sheet.specs.Refusal.{refusal-of};
 ghost use Rattle.answers.specs.Length.{length-due};
 ghost use Rattle.loads.specs.Load.{bottom-numbers};
 ghost use Rattle.loads.specs.program.Basis.{basis-for, Reached, Fits, Sound};
-ghost use Rattle.answers.specs.program.Fill.{silo-in, basis-of, strake-numbers, depths-part, answers};
+ghost use Rattle.answers.specs.program.Fill.{silo-in, basis-of, strake-numbers, Placed, depths-part, answers};
+use crate::place::bottom_place;
+use crate::place::load_place;
 use description::Depths;
 use description::Described;
 use description::WallState;
@@ -32,6 +34,18 @@ fn store(list: &mut [u32], at: usize, numbers: &[u32])
     }
 }
 
+// The eight numbers of the depth i, of so many that are listed, each in its place.
+fn store_depth(list: &mut [u32], depths: usize, i: usize, numbers: &[u32])
+    requires { ⌜ (depths ≤ 1024) × (i < depths) × (8 * depths ≤ length (now list)) × (length (now numbers) ≡ 8) ⌝ }
+    ensures { λ _. ⌜ Placed depths i 8 (now (numbers .entry)) (now (list .entry)) (now (list .exit)) ⌝ }
+{
+    let mut r = 0;
+    while r < 8 {
+        list[load_place(depths, r, i)] = numbers[r];
+        r += 1;
+    }
+}
+
 // Eight numbers for each depth.
 fn fill_depths(entries: &[u64; 3393], sheet: &[u8], depths: Depths, basis: Basis, list: &mut [u32])
     requires { ⌜ (now entries ≡ table) × (refusal-of (now sheet) ≡ 0) × (depths ≡ depths-in (now sheet)) × (basis ≡ basis-of (now sheet)) × (8 * depth-count (now sheet) ≤ length (now list)) ⌝ }
@@ -42,7 +56,7 @@ fn fill_depths(entries: &[u64; 3393], sheet: &[u8], depths: Depths, basis: Basis
     let mut i = 0;
     while i < count {
         let numbers = loads::depth_numbers(entries, basis, four_bytes(sheet, at));
-        store(list, 8 * i, &numbers);
+        store_depth(list, count, i, &numbers);
         at += 4;
         i += 1;
     }
@@ -108,7 +122,7 @@ fn fill_by(entries: &[u64; 3393], sheet: &[u8], described: Described, list: &mut
     let basis = described_basis(described);
     let depths = described.depths;
     fill_depths(entries, sheet, depths, basis, list);
-    let at = 8 * depths.count;
+    let at = bottom_place(depths.count);
     fill_bottom(entries, basis, list, at);
     fill_strakes(
         entries,

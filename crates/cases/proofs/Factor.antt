@@ -4,7 +4,6 @@ use mathlib.Core.List.{List}
 use mathlib.Core.Path.{_≡_, refl, ap, sym, _∙_, subst}
 use native.Mathlib.Omega.{arith}
 use lib.Dec.{ltb→lt, leb→le}
-use lib.ListN.{getD}
 use Rattle.fraction.specs.Fraction.{up}
 use Rattle.exponential.specs.program.Table.{table}
 use Rattle.exponential.specs.program.Lower.{lower-by, between, denominator, entry-in}
@@ -17,8 +16,10 @@ use Rattle.description.specs.Silo.{section-of, product-sent, product-of, factor
 use Rattle.loads.specs.Load.{load-depth, load-number}
 use Rattle.loads.specs.Load.Load.{p-he}
 use Rattle.answers.specs.Answers.{silo-of, depth}
+use Rattle.answers.specs.Order.{load-in}
 use Rattle.answers.specs.Promise.{Promise}
 use Rattle.answers.specs.Factor.{with-factor, Blank}
+use Rattle.answers.proofs.Places.{at-load}
 use Rattle.answers.proofs.Factor.{acts-as-155}
 use Rattle.cases.specs.Cases.{behind-section, case-sheet, factor-sheet}
 
@@ -43,6 +44,6 @@ p-he-beside = (refl, refl)
 pub other-than-135 : (lent left left' : List ℕ) → Promise computed-by table (factor-sheet 0) lent 0 left → Promise computed-by table (factor-sheet 135) lent 0 left' → left ≡ left' → ⊥
 unfolding behind-section case-sheet record-place payload-length u16 depth-count
 other-than-135 lent left left' a b e =
-    let x : getD left 13 0 ≡ 27276 = a .1 .done refl .filled .at-depths 5 1 (ltb→lt _ _ tt) (ltb→lt _ _ tt) ∙ p-he-beside .0 in
-    let y : getD left' 13 0 ≡ 23756 = b .1 .done refl .filled .at-depths 5 1 (ltb→lt _ _ tt) (ltb→lt _ _ tt) ∙ p-he-beside .1 in
-    omega (arith, sym x ∙ ap (λ (l : List ℕ). getD l 13 0) e ∙ y)
+    let x : load-in (factor-sheet 0) left p-he 1 ≡ 27276 = at-load (a .1 .done refl .filled) p-he 1 (ltb→lt _ _ tt) ∙ p-he-beside .0 in
+    let y : load-in (factor-sheet 0) left' p-he 1 ≡ 23756 = at-load (b .1 .done refl .filled) p-he 1 (ltb→lt _ _ tt) ∙ p-he-beside .1 in
+    omega (arith, sym x ∙ ap (λ (l : List ℕ). load-in (factor-sheet 0) l p-he 1) e ∙ y)

@@ -22,6 +22,7 @@ use Rattle.description.specs.program.Described.{wall-of, described-of}
 use Rattle.sheet.specs.Refusal.{refusal-of}
 use Rattle.sheet.proofs.Chains.{sheet-first, sheet-passed, call-never-13}
 use Rattle.answers.specs.declared.length.Length.the-variants.{Due, Refused}
+use Rattle.answers.specs.Place.{load-place}
 use Rattle.answers.specs.program.Fill.{answers}
 use Rattle.answers.proofs.LengthLaws.{beside-refused, beside-due}
 use Rattle.answers.proofs.Places.{answers-filled}
@@ -67,11 +68,11 @@ module _ (f : List ℕ → FillingNumbers) (t s lent left : List ℕ) (r : ℕ) 
 -- an accepted sheet's page has the length told, whatever the filling numbers that meet demand 3
 pub page-length-is : (f : FillingNumbers) (s list : List ℕ) → refusal-of s ≡ 0 → Claim f s list → length (page f s) ≡ page-due s
 page-length-is f s list h c =
-    sym (ap length (page-named f s list (c .filled))) ∙ page-text-length list (nine-digits f s list h c) (depth-count s) ∙ page-room s list (c .filled .sized)
+    sym (ap length (page-named load-place f s list (c .filled))) ∙ page-text-length load-place list (nine-digits f s list h c) (depth-count s) ∙ page-room s list (c .filled .sized)
 
 -- it is what the program writes
-pub page-is : (s : List ℕ) → page-text (answers s) (depth-count s) ≡ page computed s
-page-is s = page-named computed s (answers s) (answers-filled s)
+pub page-is : (s : List ℕ) → page-text load-place (answers s) (depth-count s) ≡ page computed s
+page-is s = page-named load-place computed s (answers s) (answers-filled s)
 
 module _ (s lent : List ℕ) where
   -- any refusal leaves the buffer as it was
@@ -85,7 +86,7 @@ module _ (s lent : List ℕ) where
   unfolding first-unmet
   short h n = refused-with 18 (sym (last-of-page s (length lent) h ∙ simp (lt-leb (page-due s) (length lent) n))) (λ o. omega arith)
 
-  pub written : (left : List ℕ) → refusal-of s ≡ 0 → page-due s ≤ length lent → left ≡ sets lent 0 (page-text (answers s) (depth-count s))
+  pub written : (left : List ℕ) → refusal-of s ≡ 0 → page-due s ≤ length lent → left ≡ sets lent 0 (page-text load-place (answers s) (depth-count s))
       → PagePromise computed-by table s lent 0 left
   unfolding first-unmet
   written left h n e =

@@ -14,6 +14,7 @@ use Rattle.sheet.specs.Refusal.{refusal-of}
 use Rattle.sheet.proofs.Chains.{sheet-met, answers-alike}
 use Rattle.sheet.proofs.Parts.{SameParts, loads-alike}
 use Rattle.answers.specs.Factor.{with-factor, Blank}
+use Rattle.answers.specs.Place.{load-place}
 use Rattle.answers.specs.Answers.{Filled}
 use Rattle.answers.proofs.LengthLaws.{told-same}
 use Rattle.answers.proofs.OneSilo.{OneSilo, Alike, filled-same, measured-alike, accepted-alike}
@@ -32,7 +33,7 @@ module _ (s s' : List ℕ) where
   -- the list of the other is also that of s
   page-same : OneSilo s s' → (f : FillingNumbers) (list : List ℕ) → Filled f s' list → page f s ≡ page f s'
   page-same o f list a =
-      sym (page-named f s list (filled-same s s' o f list a)) ∙ ap (page-text list) (o .parts .depth-counts) ∙ page-named f s' list a
+      sym (page-named load-place f s list (filled-same s s' o f list a)) ∙ ap (page-text load-place list) (o .parts .depth-counts) ∙ page-named load-place f s' list a
 
   module _ (alike : Alike s s') where
     pub one-page-length : page-length s ≡ page-length s'

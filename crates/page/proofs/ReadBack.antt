@@ -19,7 +19,7 @@ use Rattle.description.specs.Silo.{strake-count, depth-count}
 use Rattle.sheet.specs.Refusal.{refusal-of}
 use Rattle.answers.specs.Each.{each}
 use Rattle.answers.specs.Length.{length-due}
-use Rattle.answers.specs.Place.{load-place}
+use Rattle.answers.specs.Place.{load-place, bottom-place, strake-place}
 use Rattle.answers.specs.Claim.{Claim}
 use Rattle.answers.proofs.Stores.{part-at}
 use Rattle.answers.proofs.Digits.{eight-digits, nine-digits}
@@ -33,28 +33,28 @@ use Rattle.page.proofs.Named.{page-named}
 module _ (list : List ℕ) (few : Few list) (n : ℕ) where
   -- of column j of the depth i
   row-character : (i j t : ℕ) → i < n → j < 8 → t < 9
-      → getD (page-text list n) (73 * (1 + i) + 9 * j + t) 0 ≡ getD (number-field (getD list (8 * i + j) 0)) t 0
+      → getD (page-text load-place list n) (73 * (1 + i) + 9 * j + t) 0 ≡ getD (number-field (getD list (load-place n j i) 0)) t 0
   unfolding page-text row-text
   row-character i j t hi hj ht =
       let at : 73 * (1 + i) + 9 * j + t ≡ length heading + (73 * i + (9 * j + t)) = omega (arith, heading-length) in
-      ap (λ (k : ℕ). getD (page-text list n) k 0) at
+      ap (λ (k : ℕ). getD (page-text load-place list n) k 0) at
       ∙ getD-append-add heading _ (73 * i + (9 * j + t)) 0
-      ∙ List·getD-append (rows list n) _ 0 (73 * i + (9 * j + t)) (omega (arith, rows-length list few n))
-      ∙ part-at (row-text list) 73 (row-length list few) n (73 * i + (9 * j + t)) i (9 * j + t) refl hi (omega arith)
-      ∙ List·getD-append (each (at-column list i) 0 8) _ 0 (9 * j + t) (omega (arith, columns-length list few i))
-      ∙ part-at (at-column list i) 9 (column-length list few i) 8 (9 * j + t) j t refl hj ht
+      ∙ List·getD-append (rows load-place list n) _ 0 (73 * i + (9 * j + t)) (omega (arith, rows-length load-place list few n))
+      ∙ part-at (row-text load-place list n) 73 (row-length load-place list few n) n (73 * i + (9 * j + t)) i (9 * j + t) refl hi (omega arith)
+      ∙ List·getD-append (each (at-column load-place list n i) 0 8) _ 0 (9 * j + t) (omega (arith, columns-length load-place list few n i))
+      ∙ part-at (at-column load-place list n i) 9 (column-length load-place list few n i) 8 (9 * j + t) j t refl hj ht
 
   -- of number k behind the depths
-  rest-character : (k t : ℕ) → k < length list - 8 * n → t < 9
-      → getD (page-text list n) (rest-field n k + t) 0 ≡ getD (number-field (getD list (8 * n + k) 0)) t 0
+  rest-character : (k t : ℕ) → k < length list - bottom-place n 0 → t < 9
+      → getD (page-text load-place list n) (rest-field n k + t) 0 ≡ getD (number-field (getD list (bottom-place n 0 + k) 0)) t 0
   unfolding page-text number-text
   rest-character k t hk ht =
-      let at : rest-field n k + t ≡ length heading + (length (rows list n) + (10 * k + t)) = omega (arith, heading-length, rows-length list few n) in
-      ap (λ (m : ℕ). getD (page-text list n) m 0) at
-      ∙ getD-append-add heading _ (length (rows list n) + (10 * k + t)) 0
-      ∙ getD-append-add (rows list n) _ (10 * k + t) 0
-      ∙ part-at (at-rest list (8 * n)) 10 (rest-line list few (8 * n)) (length list - 8 * n) (10 * k + t) k t refl hk (omega arith)
-      ∙ List·getD-append (number-field (getD list (8 * n + k) 0)) _ 0 t (omega (arith, field-length (getD list (8 * n + k) 0) (few (8 * n + k))))
+      let at : rest-field n k + t ≡ length heading + (length (rows load-place list n) + (10 * k + t)) = omega (arith, heading-length, rows-length load-place list few n) in
+      ap (λ (m : ℕ). getD (page-text load-place list n) m 0) at
+      ∙ getD-append-add heading _ (length (rows load-place list n) + (10 * k + t)) 0
+      ∙ getD-append-add (rows load-place list n) _ (10 * k + t) 0
+      ∙ part-at (at-rest list (bottom-place n 0)) 10 (rest-line list few (bottom-place n 0)) (length list - bottom-place n 0) (10 * k + t) k t refl hk (omega arith)
+      ∙ List·getD-append (number-field (getD list (bottom-place n 0 + k) 0)) _ 0 t (omega (arith, field-length (getD list (bottom-place n 0 + k) 0) (few (bottom-place n 0 + k))))
 
 -- nine characters that are those of a number's field
 field-back : (text : List ℕ) (at m : ℕ) → m < 10 ^ 9 → at + 9 ≤ length text → ((t : ℕ) → t < 9 → getD text (at + t) 0 ≡ getD (number-field m) t 0)
@@ -73,20 +73,20 @@ module _ (f : FillingNumbers) (s list behind : List ℕ) (h : refusal-of s ≡ 0
   few : Few list
   few = nine-digits f s list h claim
 
-  rest-count : length list - 8 * n ≡ 10 + strake-count s
+  rest-count : length list - bottom-place n 0 ≡ 10 + strake-count s
   unfolding length-due
   rest-count = omega (arith, claim .filled .sized)
 
-  text-length : length (page-text list n) ≡ 73 * (1 + n) + 10 * (10 + strake-count s)
-  text-length = page-text-length list few n ∙ ap (λ (m : ℕ). 73 * (1 + n) + 10 * m) rest-count
+  text-length : length (page-text load-place list n) ≡ 73 * (1 + n) + 10 * (10 + strake-count s)
+  text-length = page-text-length load-place list few n ∙ ap (λ (m : ℕ). 73 * (1 + n) + 10 * m) rest-count
 
   -- the page, and what stands behind it in the buffer
-  inside : (at : ℕ) → at < length (page-text list n) → getD (page f s ++ behind) at 0 ≡ getD (page-text list n) at 0
+  inside : (at : ℕ) → at < length (page-text load-place list n) → getD (page f s ++ behind) at 0 ≡ getD (page-text load-place list n) at 0
   inside at g =
-      ap (λ (l : List ℕ). getD (l ++ behind) at 0) (sym (page-named f s list (claim .filled))) ∙ List·getD-append (page-text list n) behind 0 at g
+      ap (λ (l : List ℕ). getD (l ++ behind) at 0) (sym (page-named load-place f s list (claim .filled))) ∙ List·getD-append (page-text load-place list n) behind 0 at g
 
-  longer : length (page-text list n) ≤ length (page f s ++ behind)
-  longer = omega (arith, length-append (page f s) behind, ap length (page-named f s list (claim .filled)))
+  longer : length (page-text load-place list n) ≤ length (page f s ++ behind)
+  longer = omega (arith, length-append (page f s) behind, ap length (page-named load-place f s list (claim .filled)))
 
   -- number j of the depth i
   abbrev listed : ℕ → ℕ → ℕ
@@ -109,18 +109,21 @@ module _ (f : FillingNumbers) (s list behind : List ℕ) (h : refusal-of s ≡ 0
       field-back (page f s ++ behind) (column-field i j) (listed i j)
       (omega (arith, eight-digits f s list h claim j i hj hi)) (omega (arith, longer, text-length)) (λ t ht. load-character i j t hi hj ht)
 
-  rest-back : (k : ℕ) → k < 10 + strake-count s → number-at (page f s ++ behind) (rest-field n k) ≡ getD list (8 * n + k) 0
+  rest-back : (k : ℕ) → k < 10 + strake-count s → number-at (page f s ++ behind) (rest-field n k) ≡ getD list (bottom-place n 0 + k) 0
   rest-back k hk =
-      field-back (page f s ++ behind) (rest-field n k) (getD list (8 * n + k) 0) (few (8 * n + k)) (omega (arith, longer, text-length))
+      field-back (page f s ++ behind) (rest-field n k) (getD list (bottom-place n 0 + k) 0) (few (bottom-place n 0 + k)) (omega (arith, longer, text-length))
       (λ t ht. inside (rest-field n k + t) (omega (arith, text-length)) ∙ rest-character list few n k t (omega (arith, rest-count)) ht)
 
   pub reads-back : ReadsBack s (page f s ++ behind) list
   reads-back =
       record {
         depths-back = load-back;
-        bottom-back = λ k g. rest-back k (omega arith);
+        bottom-back =
+            λ k g.
+            let at : bottom-place n 0 + k ≡ bottom-place n k = omega arith in
+            rest-back k (omega arith) ∙ ap (λ (m : ℕ). getD list m 0) at;
         strakes-back =
             λ k g.
-            let at : 8 * n + (10 + k) ≡ 8 * n + 10 + k = omega arith in
+            let at : bottom-place n 0 + (10 + k) ≡ strake-place n k = omega arith in
             rest-back (10 + k) (omega arith) ∙ ap (λ (m : ℕ). getD list m 0) at;
       }

@@ -11,6 +11,7 @@ use Rattle.description.specs.Silo.{depth-count}
 use Rattle.description.specs.declared.Described.{Described}
 use Rattle.description.specs.program.Described.{described-of}
 use Rattle.sheet.specs.Refusal.{refusal-of}
+use Rattle.answers.specs.Place.{bottom-place}
 use Rattle.answers.specs.Length.{length-due}
 use Rattle.answers.specs.program.Fill.{answers}
 use Rattle.answers.proofs.Places.{length-answers, answers-filled}
@@ -21,7 +22,7 @@ use Rattle.page.specs.Page.{page-due}
 use Rattle.page.proofs.Lines.{Few}
 
 -- the lines of depths, bottom and strakes
-pub page-room : (s list : List ℕ) → length list ≡ length-due s → 73 * (1 + depth-count s) + 10 * (length list - 8 * depth-count s) ≡ page-due s
+pub page-room : (s list : List ℕ) → length list ≡ length-due s → 73 * (1 + depth-count s) + 10 * (length list - bottom-place (depth-count s) 0) ≡ page-due s
 unfolding length-due page-due
 page-room s list e = omega (arith, e)
 
@@ -33,7 +34,7 @@ module _ (s : List ℕ) (h : refusal-of s ≡ 0) where
   unfolding length-due
   due-most = omega (arith, depths-near s h .1, strakes-few s h)
 
-  pub rows-inside : 8 * depth-count s ≤ length (answers s)
+  pub rows-inside : bottom-place (depth-count s) 0 ≤ length (answers s)
   unfolding length-due
   rows-inside = omega (arith, length-answers s)
 

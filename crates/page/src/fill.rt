@@ -6,9 +6,12 @@ ghost use lib.Seq.{sets};
 ghost use Rattle.description.specs.Silo.{depth-count};
 ghost use Rattle.description.specs.program.Described.{described-of};
 ghost use Rattle.sheet.specs.Refusal.{refusal-of};
+ghost use Rattle.answers.specs.Place.{load-place, bottom-place};
 ghost use Rattle.answers.specs.program.Fill.{answers};
 ghost use Rattle.page.specs.Page.{heading as heading-line, page-due};
 ghost use Rattle.page.specs.program.Text.{row-text, number-text, rows, rest, page-text};
+use answers::place::bottom_place;
+use answers::place::load_place;
 use description::Described;
 
 // The heading's bytes.
@@ -18,14 +21,14 @@ fn heading() -> [u8; 73]
     *b"        z      phf      pwf      pvf       PW      phe      pwe       pp\n"
 }
 
-// The line of the depth i, from the place `at` on.
-fn put_row(out: &mut [u8], at: usize, list: &[u32], i: usize)
-    requires { ⌜ ((k : ℕ) → getD (now list) k 0 < 10 ^ 9) × (at + 73 ≤ length (now out)) × (8 * i + 8 ≤ length (now list)) ⌝ }
-    ensures { λ _. ⌜ now (out .exit) ≡ sets (now (out .entry)) at (row-text (now (list .entry)) i) ⌝ }
+// The line of the depth i, of so many, from the place `at` on.
+fn put_row(out: &mut [u8], at: usize, list: &[u32], depths: usize, i: usize)
+    requires { ⌜ ((k : ℕ) → getD (now list) k 0 < 10 ^ 9) × (at + 73 ≤ length (now out)) × (depths ≤ 1024) × (i < depths) × (bottom-place depths 0 ≤ length (now list)) ⌝ }
+    ensures { λ _. ⌜ now (out .exit) ≡ sets (now (out .entry)) at (row-text load-place (now (list .entry)) depths i) ⌝ }
 {
     let mut j = 0;
     while j < 8 {
-        text::put_number(out, at + 9 * j, list[8 * i + j]);
+        text::put_number(out, at + 9 * j, list[load_place(depths, j, i)]);
         j += 1;
     }
     out[at + 72] = b'\n';
@@ -33,12 +36,12 @@ fn put_row(out: &mut [u8], at: usize, list: &[u32], i: usize)
 
 // A line for each depth, behind the heading.
 fn put_rows(out: &mut [u8], list: &[u32], depths: usize)
-    requires { ⌜ ((k : ℕ) → getD (now list) k 0 < 10 ^ 9) × (73 + 73 * depths ≤ length (now out)) × (8 * depths ≤ length (now list)) ⌝ }
-    ensures { λ _. ⌜ now (out .exit) ≡ sets (now (out .entry)) 73 (rows (now (list .entry)) depths) ⌝ }
+    requires { ⌜ ((k : ℕ) → getD (now list) k 0 < 10 ^ 9) × (73 + 73 * depths ≤ length (now out)) × (depths ≤ 1024) × (bottom-place depths 0 ≤ length (now list)) ⌝ }
+    ensures { λ _. ⌜ now (out .exit) ≡ sets (now (out .entry)) 73 (rows load-place (now (list .entry)) depths) ⌝ }
 {
     let mut i = 0;
     while i < depths {
-        put_row(out, 73 + 73 * i, list, i);
+        put_row(out, 73 + 73 * i, list, depths, i);
         i += 1;
     }
 }
@@ -67,13 +70,13 @@ fn put_rest(out: &mut [u8], at: usize, list: &[u32], from: usize)
 
 // The page of an answer list of so many depths.
 fn put_page(out: &mut [u8], list: &[u32], depths: usize)
-    requires { ⌜ ((k : ℕ) → getD (now list) k 0 < 10 ^ 9) × (8 * depths ≤ length (now list)) × (73 + 73 * depths + 10 * (length (now list) - 8 * depths) ≤ length (now out)) ⌝ }
-    ensures { λ _. ⌜ now (out .exit) ≡ sets (now (out .entry)) 0 (page-text (now (list .entry)) depths) ⌝ }
+    requires { ⌜ ((k : ℕ) → getD (now list) k 0 < 10 ^ 9) × (depths ≤ 1024) × (bottom-place depths 0 ≤ length (now list)) × (73 + 73 * depths + 10 * (length (now list) - bottom-place depths 0) ≤ length (now out)) ⌝ }
+    ensures { λ _. ⌜ now (out .exit) ≡ sets (now (out .entry)) 0 (page-text load-place (now (list .entry)) depths) ⌝ }
 {
     let line = heading();
     text::put_text(out, 0, &line);
     put_rows(out, list, depths);
-    put_rest(out, 73 + 73 * depths, list, 8 * depths);
+    put_rest(out, 73 + 73 * depths, list, bottom_place(depths));
 }
 
 // Room for every answer list. Only its length is told, so that goals stay short.
@@ -86,7 +89,7 @@ fn blank() -> [u32; 1650]
 // The page of a sheet that is not refused, in a buffer that has room for it.
 pub fn fill(sheet: &[u8], described: Described, out: &mut [u8])
     requires { ⌜ (refusal-of (now sheet) ≡ 0) × (described ≡ described-of (now sheet)) × (page-due (now sheet) ≤ length (now out)) ⌝ }
-    ensures { λ _. ⌜ now (out .exit) ≡ sets (now (out .entry)) 0 (page-text (answers (now (sheet .entry))) (depth-count (now (sheet .entry)))) ⌝ }
+    ensures { λ _. ⌜ now (out .exit) ≡ sets (now (out .entry)) 0 (page-text load-place (answers (now (sheet .entry))) (depth-count (now (sheet .entry)))) ⌝ }
 {
     let mut list = blank();
     let depths = described.depths.count;

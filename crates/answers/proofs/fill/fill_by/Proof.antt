@@ -28,9 +28,9 @@ fill-depths-requires c κs =
       omega (arith, has),
     )
 
-mul-at : tie.Need-mul-at
-mul-at c =
-    let start = c .before .before .before .before .before .before .before .before .before in
+bottom-place-requires : tie.Need-bottom-place-requires
+bottom-place-requires c κs =
+    let start = c .before .before .before .before .before .before .before .before in
     let near = depths-near (start .args .sheet .now) (start .pre .1) in
     omega (arith, ap (λ (d : Described). d .depths .count) (start .pre .2), near .1)
 
@@ -44,13 +44,13 @@ fill-bottom-requires c κs =
     let has = room s (length list) (start .pre .3) in
     let basis = basis-described s (start .args .t3) (made .described-basis .result) (start .pre .2) (made .described-basis .ensures) in
     let kept : length (filled .fill-depths .last .1 .1 .1 .1 .0) ≡ length list = filled .fill-depths .kept .1 .1 .1 .1 .0 in
-    (start .pre .0, rw basis (basis-sound s (start .pre .1)), omega (arith, has, ap (λ (d : Described). d .depths .count) (start .pre .2), kept))
+    (start .pre .0, rw basis (basis-sound s (start .pre .1)), omega (arith, has, c .before .bottom-place .ensures, ap (λ (d : Described). d .depths .count) (start .pre .2), kept))
 
 add-fill-strakes : tie.Need-add-fill-strakes
 add-fill-strakes c =
     let start = c .before .before .before .before .before .before .before .before .before .before .before .before .before .before .before .before in
     let near = depths-near (start .args .sheet .now) (start .pre .1) in
-    omega (arith, ap (λ (d : Described). d .depths .count) (start .pre .2), near .1)
+    omega (arith, c .before .before .before .before .before .before .before .bottom-place .ensures, ap (λ (d : Described). d .depths .count) (start .pre .2), near .1)
 
 fill-strakes-requires : tie.Need-fill-strakes-requires
 fill-strakes-requires c κs =
@@ -71,7 +71,7 @@ fill-strakes-requires c κs =
       omega (arith, wall .0, strakes-few s h),
       wall .1,
       rw (basis, wall .2) (wall-reached s h .0),
-      omega (arith, has, ap (λ (d : Described). d .depths .count) (start .pre .2), kept, kept', wall .0),
+      omega (arith, has, c .before .before .before .before .before .before .before .bottom-place .ensures, ap (λ (d : Described). d .depths .count) (start .pre .2), kept, kept', wall .0),
       rw (wall .2) (wall-reached s h .1),
     )
 
@@ -88,8 +88,10 @@ returns c =
     let s = start .args .sheet .now in
     let d = start .args .t3 in
     let basis = basis-described s d (made .described-basis .result) (start .pre .2) (made .described-basis .ensures) in
+    let below = c .before .before .before .before .before .before .before .before .before .before .bottom-place in
     whole-list s (start .args .list .now) (filled .fill-depths .last .1 .1 .1 .1 .0) (bottom .fill-bottom .last .1 .1 .0)
-    (strakes .fill-strakes .last .1 .1 .1 .1 .0) (d .depths .count) (ap (λ (d : Described). d .depths .count) (start .pre .2)) (start .pre .3)
+    (strakes .fill-strakes .last .1 .1 .1 .1 .0) (below .result)
+    (omega (arith, below .ensures, ap (λ (d : Described). d .depths .count) (start .pre .2))) (start .pre .3)
     (filled .fill-depths .ensures)
     (bottom .fill-bottom .ensures ∙ rw basis refl)
     (strakes .fill-strakes .ensures ∙ rw (basis, described-wall s (start .pre .1) d (start .pre .2) .2) refl)
@@ -100,7 +102,7 @@ fill-by-spec =
     (tie.spec
     described-basis-requires
     fill-depths-requires
-    mul-at
+    bottom-place-requires
     fill-bottom-requires
     add-fill-strakes
     fill-strakes-requires

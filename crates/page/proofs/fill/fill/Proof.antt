@@ -6,6 +6,7 @@ use borrow.Author.Needs.{needs}
 use native.Mathlib.Omega.{arith}
 use lib.ListN.{length}
 use lib.Seq.{sets}
+use Rattle.answers.specs.Place.{load-place}
 use Rattle.answers.specs.Length.{length-due}
 use Rattle.answers.proofs.LengthLaws.{described-due}
 use Rattle.page.specs.program.Text.{page-text}
@@ -83,8 +84,9 @@ put-page-requires c κs =
     let filled = c .before .before .before .fill in
     let h = start x .pre .0 in
     let list = filled-front (n x) (room x) (inside x) (filled .last .1 .1 .0) (filled .kept .1 .1 .0) ∙ filled .ensures in
-    let count = described-counts (s x) h (start x .args .described) (start x .pre .1) .0 in
-    rw (list, count) (answers-few (s x) h, rows-inside (s x) h, omega (arith, page-room (s x) (answers (s x)) (length-answers (s x)), start x .pre .2))
+    let few = described-counts (s x) h (start x .args .described) (start x .pre .1) in
+    let count = few .0 in
+    rw (list, count) (answers-few (s x) h, omega (arith, few .1, count), rows-inside (s x) h, omega (arith, page-room (s x) (answers (s x)) (length-answers (s x)), start x .pre .2))
 
 same-length : tie.Need-same-length
 same-length c = search needs
@@ -97,7 +99,7 @@ returns c =
     let h = start x .pre .0 in
     let list = filled-front (n x) (room x) (inside x) (filled .last .1 .1 .0) (filled .kept .1 .1 .0) ∙ filled .ensures in
     let count = described-counts (s x) h (start x .args .described) (start x .pre .1) .0 in
-    put .ensures ∙ ap₂ (λ (l : List ℕ) (k : ℕ). sets (start x .args .out .now) 0 (page-text l k)) list count
+    put .ensures ∙ ap₂ (λ (l : List ℕ) (k : ℕ). sets (start x .args .out .now) 0 (page-text load-place l k)) list count
 
 pub fill-spec : {M : Type 1} → statement M
 fill-spec =

@@ -8,6 +8,7 @@ use native.Mathlib.Omega.{arith}
 use lib.ListN.{length}
 use lib.Seq.{sets}
 use Rattle.answers.specs.Each.{each}
+use Rattle.answers.specs.Place.{load-place}
 use Rattle.answers.proofs.Stores.{each-next, each-done}
 use Rattle.page.specs.program.Text.{row-text, rows}
 use Rattle.page.proofs.Lines.{row-length}
@@ -16,7 +17,7 @@ use Rattle.page.proofs.fill.put_rows.Tie as tie
 
 abbrev Inv-loop : tie.InvT-loop
 Inv-loop out₀ list depths i₀ out i =
-    (i ≤ depths) × (length out ≡ length out₀) × (sets out₀ 73 (rows list depths) ≡ sets out (73 + 73 * i) (each (row-text list) i (depths - i)))
+    (i ≤ depths) × (length out ≡ length out₀) × (sets out₀ 73 (rows load-place list depths) ≡ sets out (73 + 73 * i) (each (row-text load-place list depths) i (depths - i)))
 
 abbrev μ-loop : tie.MeasureT-loop
 μ-loop out₀ list depths i₀ out i = depths - i
@@ -25,7 +26,7 @@ loop-holds : tie.Need-loop-holds Inv-loop μ-loop
 loop-holds c =
     let a = c .before .before .args in
     let all : a .depths ≡ a .depths - 0 = omega arith in
-    (omega arith, refl, ap (λ (n : ℕ). sets (a .out .now) 73 (each (row-text (a .list .now)) 0 n)) all)
+    (omega arith, refl, ap (λ (n : ℕ). sets (a .out .now) 73 (each (row-text load-place (a .list .now) (a .depths)) 0 n)) all)
 
 mul-put-row : tie.Need-mul-put-row Inv-loop μ-loop
 mul-put-row c = search needs
@@ -38,7 +39,7 @@ put-row-requires c κs =
     let l = c .before .before .loop in
     let start = c .before .before .before .before .before in
     let t = c .before .loop-test .taken in
-    (start .pre .0, omega (arith, l .inv .1, start .pre .1, t), omega (arith, start .pre .2, t))
+    (start .pre .0, omega (arith, l .inv .1, start .pre .1, t), start .pre .2, t, start .pre .3)
 
 add-i : tie.Need-add-i Inv-loop μ-loop
 add-i c = search needs
@@ -57,8 +58,8 @@ loop-again c =
       omega (arith, t),
       put .kept .0 ∙ l .inv .1,
       l .inv .2
-          ∙ each-next (row-text list) (l .out) (73 + 73 * l .i) (73 + 73 * (l .i + 1)) (a .depths) (l .i) t (omega (arith, row-length list (start .pre .0) (l .i)))
-          ∙ ap (λ (x : List ℕ). sets x (73 + 73 * (l .i + 1)) (each (row-text list) (l .i + 1) (a .depths - (l .i + 1)))) (sym (put .ensures)),
+          ∙ each-next (row-text load-place list (a .depths)) (l .out) (73 + 73 * l .i) (73 + 73 * (l .i + 1)) (a .depths) (l .i) t (omega (arith, row-length load-place list (start .pre .0) (a .depths) (l .i)))
+          ∙ ap (λ (x : List ℕ). sets x (73 + 73 * (l .i + 1)) (each (row-text load-place list (a .depths)) (l .i + 1) (a .depths - (l .i + 1)))) (sym (put .ensures)),
     )
 
 same-length : tie.Need-same-length Inv-loop μ-loop
@@ -68,7 +69,7 @@ returns : tie.Need-returns Inv-loop μ-loop
 returns c =
     let l = c .before .loop in
     let a = c .before .before .before .before .args in
-    sym (l .inv .2 ∙ each-done (row-text (a .list .now)) (l .out) (73 + 73 * l .i) (a .depths) (l .i) (c .loop-test .left))
+    sym (l .inv .2 ∙ each-done (row-text load-place (a .list .now) (a .depths)) (l .out) (73 + 73 * l .i) (a .depths) (l .i) (c .loop-test .left))
 
 pub put-rows-spec : {M : Type 1} → statement M
 put-rows-spec =
