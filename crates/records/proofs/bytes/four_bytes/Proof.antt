@@ -5,6 +5,15 @@ use borrow.Author.Needs.{needs}
 use Rattle.records.proofs.bytes.four_bytes.Statement.{statement}
 use Rattle.records.proofs.bytes.four_bytes.Tie as tie
 
+add-if1 : tie.Need-add-if1
+add-if1 c = search needs
+
+four-inside-requires : tie.Need-four-inside-requires
+four-inside-requires c κs = search needs
+
+returns : tie.Need-returns
+returns c = search needs
+
 two-bytes-requires : tie.Need-two-bytes-requires
 two-bytes-requires c κs = search needs
 
@@ -20,11 +29,20 @@ mul-result c = search needs
 add-result : tie.Need-add-result
 add-result c = search needs
 
-returns : tie.Need-returns
+returns-2 : tie.Need-returns-2
 unfolding u32
-returns c = omega arith
+returns-2 c = omega arith
 
 pub four-bytes-spec : {M : Type 1} → statement M
 four-bytes-spec =
     tie.close
-    (tie.spec two-bytes-requires add-two-bytes two-bytes-requires-2 mul-result add-result returns)
+    (tie.spec
+    add-if1
+    four-inside-requires
+    returns
+    two-bytes-requires
+    add-two-bytes
+    two-bytes-requires-2
+    mul-result
+    add-result
+    returns-2)
