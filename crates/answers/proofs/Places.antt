@@ -26,10 +26,6 @@ use Rattle.answers.specs.program.Fill.{at-strake, number-of, depths-part
 use Rattle.answers.proofs.Stores.{each-length, part-at}
 use Rattle.answers.proofs.PlaceLaws.{load-under, load-every, placed-length, placed-at}
 
-pub numbers-length : (c : Silo) (x : ℕ) → length (depth-numbers c x) ≡ 8
-unfolding depth-numbers
-numbers-length c x = refl
-
 -- a property of each of a depth's eight
 by-eight : (E : ℕ → Type 0) → E 0 → E 1 → E 2 → E 3 → E 4 → E 5 → E 6 → E 7 → (r : ℕ) → r < 8 → E r
 by-eight E a b c d e f g h zero l = a

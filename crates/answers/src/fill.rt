@@ -35,9 +35,9 @@ fn store(list: &mut [u32], at: usize, numbers: &[u32])
 }
 
 // The eight numbers of the depth i, of so many that are listed, each in its place.
-fn store_depth(list: &mut [u32], depths: usize, i: usize, numbers: &[u32])
-    requires { ⌜ (depths ≤ 1024) × (i < depths) × (8 * depths ≤ length (now list)) × (length (now numbers) ≡ 8) ⌝ }
-    ensures { λ _. ⌜ Placed depths i 8 (now (numbers .entry)) (now (list .entry)) (now (list .exit)) ⌝ }
+fn store_depth(list: &mut [u32], depths: usize, i: usize, numbers: [u32; 8])
+    requires { ⌜ (depths ≤ 1024) × (i < depths) × (8 * depths ≤ length (now list)) ⌝ }
+    ensures { λ _. ⌜ Placed depths i 8 numbers (now (list .entry)) (now (list .exit)) ⌝ }
 {
     let mut r = 0;
     while r < 8 {
@@ -56,7 +56,7 @@ fn fill_depths(entries: &[u64; 3393], sheet: &[u8], depths: Depths, basis: Basis
     let mut i = 0;
     while i < count {
         let numbers = loads::depth_numbers(entries, basis, four_bytes(sheet, at));
-        store_depth(list, count, i, &numbers);
+        store_depth(list, count, i, numbers);
         at += 4;
         i += 1;
     }

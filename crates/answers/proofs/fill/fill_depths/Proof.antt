@@ -13,7 +13,6 @@ use Rattle.description.specs.Silo.{depth-count}
 use Rattle.sheet.proofs.Acceptance.{accepted}
 use Rattle.answers.specs.program.Fill.{Placed, at-depth, number-of}
 use Rattle.answers.proofs.Placing.{PlacedTo, depths-start, depths-next, depths-done}
-use Rattle.answers.proofs.Places.{numbers-length}
 use Rattle.answers.proofs.Demand.{depth-reached}
 use Rattle.answers.proofs.Whole.{depth-read, depths-near, basis-sound}
 use Rattle.answers.proofs.fill.fill_depths.Statement.{statement}
@@ -57,27 +56,20 @@ depth-numbers-requires c κs =
       c .four-bytes .ensures .1,
     )
 
-slice-aggregate-store-depth : tie.Need-slice-aggregate-store-depth Inv-loop μ-loop
-slice-aggregate-store-depth c = search needs
-
 store-depth-requires : tie.Need-store-depth-requires Inv-loop μ-loop
 store-depth-requires c κs =
-    let row = c .before .before .depth-numbers in
-    let l = c .before .before .before .before .before .loop in
-    let start = c .before .before .before .before .before .before .before .before in
-    let s = start .args .sheet .now in
-    let near = depths-near s (start .pre .1) in
-    let t = c .before .before .before .before .loop-test .taken in (
+    let l = c .before .before .before .before .loop in
+    let start = c .before .before .before .before .before .before .before in
+    let near = depths-near (start .args .sheet .now) (start .pre .1) in (
       omega (arith, l .inv .1, near .1),
-      t,
+      omega (arith, c .before .before .before .loop-test .taken),
       omega (arith, l .inv .1, start .pre .4, l .inv .3 .sized),
-      ap length (row .ensures) ∙ numbers-length _ _,
     )
 
 add-at : tie.Need-add-at Inv-loop μ-loop
 add-at c =
-    let l = c .before .before .before .before .before .before .before .before .loop in
-    let start = c .before .before .before .before .before .before .before .before .before .before .before in
+    let l = c .before .before .before .before .before .before .before .loop in
+    let start = c .before .before .before .before .before .before .before .before .before .before in
     let near = depths-near (start .args .sheet .now) (start .pre .1) in
     omega (arith, l .inv .0, l .inv .1, l .inv .2, near .0, near .1)
 
@@ -90,8 +82,8 @@ loop-less c = search needs
 loop-again : tie.Need-loop-again Inv-loop μ-loop
 loop-again c =
     let stored = c .before .before .store-depth in
-    let row = c .before .before .before .before .before .depth-numbers in
-    let read = c .before .before .before .before .before .before in
+    let row = c .before .before .before .before .depth-numbers in
+    let read = c .before .before .before .before .before in
     let l = read .before .before .loop in
     let start = read .before .before .before .before .before in
     let s = start .args .sheet .now in
@@ -130,7 +122,6 @@ fill-depths-spec =
     loop-holds
     four-bytes-requires
     depth-numbers-requires
-    slice-aggregate-store-depth
     store-depth-requires
     add-at
     add-i

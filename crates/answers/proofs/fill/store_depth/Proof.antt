@@ -19,14 +19,14 @@ abbrev μ-loop : tie.MeasureT-loop
 
 loop-holds : tie.Need-loop-holds Inv-loop μ-loop
 loop-holds c =
-    let a = c .before .before .args in
-    (omega arith, placed-start (a .depths) (a .i) (a .numbers .now) (a .list .now))
+    let a = c .before .args in
+    (omega arith, placed-start (a .depths) (a .i) (a .t4) (a .list .now))
 
 mul-list : tie.Need-mul-list Inv-loop μ-loop
 mul-list c = search needs
 
-shared-slice-read-list : tie.Need-shared-slice-read-list Inv-loop μ-loop
-shared-slice-read-list c = search needs
+array-read-list : tie.Need-array-read-list Inv-loop μ-loop
+array-read-list c = search needs
 
 load-place-requires : tie.Need-load-place-requires Inv-loop μ-loop
 load-place-requires c κs = search needs
@@ -36,8 +36,8 @@ mul-list-2 c = search needs
 
 slice-write-list : tie.Need-slice-write-list Inv-loop μ-loop
 slice-write-list c =
-    let start = c .before .before .before .before .before .before in
-    omega (arith, c .load-place .ensures .1, start .pre .2, c .before .before .before .loop .inv .1 .sized)
+    let start = c .before .before .before .before in
+    omega (arith, c .load-place .ensures .1, start .pre .2, c .before .before .loop .inv .1 .sized)
 
 add-r : tie.Need-add-r Inv-loop μ-loop
 add-r c = search needs
@@ -47,14 +47,14 @@ loop-less c = search needs
 
 loop-again : tie.Need-loop-again Inv-loop μ-loop
 loop-again c =
-    let l = c .before .before .before .loop in
-    let start = c .before .before .before .before .before .before in
+    let l = c .before .before .loop in
+    let start = c .before .before .before .before in
     let a = start .args in
-    let t = c .before .before .loop-test .taken in
-    let x = getD (a .numbers .now) (l .r) 0 in (
+    let t = c .before .loop-test .taken in
+    let x = getD (a .t4) (l .r) 0 in (
       omega (arith, t),
-      subst (λ (k : ℕ). Placed (a .depths) (a .i) (l .r + 1) (a .numbers .now) (a .list .now) (set (l .list) k x)) (sym (c .load-place .ensures .0))
-          (placed-next (a .depths) (a .i) (a .numbers .now) (a .list .now) (l .r) (l .list) t (start .pre .1) (start .pre .2) (l .inv .1)),
+      subst (λ (k : ℕ). Placed (a .depths) (a .i) (l .r + 1) (a .t4) (a .list .now) (set (l .list) k x)) (sym (c .load-place .ensures .0))
+          (placed-next (a .depths) (a .i) (a .t4) (a .list .now) (l .r) (l .list) t (start .pre .1) (start .pre .2) (l .inv .1)),
     )
 
 same-length : tie.Need-same-length Inv-loop μ-loop
@@ -63,9 +63,9 @@ same-length c = c .before .loop .inv .1 .sized
 returns : tie.Need-returns Inv-loop μ-loop
 returns c =
     let l = c .before .loop in
-    let a = c .before .before .before .before .args in
+    let a = c .before .before .before .args in
     let e : l .r ≡ 8 = omega (arith, c .loop-test .left, l .inv .0) in
-    subst (λ (m : ℕ). Placed (a .depths) (a .i) m (a .numbers .now) (a .list .now) (l .list)) e (l .inv .1)
+    subst (λ (m : ℕ). Placed (a .depths) (a .i) m (a .t4) (a .list .now) (l .list)) e (l .inv .1)
 
 pub store-depth-spec : {M : Type 1} → statement M
 store-depth-spec =
@@ -75,7 +75,7 @@ store-depth-spec =
     μ-loop
     loop-holds
     mul-list
-    shared-slice-read-list
+    array-read-list
     load-place-requires
     mul-list-2
     slice-write-list
