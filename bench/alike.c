@@ -4,8 +4,9 @@
  * is refused. Where the earlier library is from before C-14, the library's answer to a blank factor is compared with the earlier one's to
  * 155 written in, and the library's to 135 written in with the earlier one's to a blank factor. Where it is from before C-13, sheets that go
  * on behind their sixth record are not among these: it answers 5 to them, and the library's length call is compared with the reading of
- * bench/sheet.c. Where it is from before C-17, the library's load call alone is made with long bins, which the earlier one calculates. Prints
- * the counts. Status 1: a difference, with the library's sheet in hexadecimal; or a refusal that was never reached. */
+ * bench/sheet.c. Where it is from before C-17, the library's load call alone is made with long bins, which the earlier one calculates. Where
+ * it is from before C-18, its lists have rows: the number for each load and depth has to be that of the library's columns. Prints the
+ * counts. Status 1: a difference, with the library's sheet in hexadecimal; or a refusal that was never reached. */
 #include "before.h"
 #include "sheet.h"
 #include "silo.h"
@@ -43,7 +44,7 @@ struct bytes {
     size_t length;
 };
 
-static bool no_headroom_before, blank_is_135_before, long_before;
+static bool no_headroom_before, blank_is_135_before, long_before, rows_before;
 static uint64_t state, sheets, accepted, read_here, blank, blank_accepted, refused[UNEQUAL + 1];
 static uint32_t before[LIST], after[LIST], untouched[LIST];
 
@@ -287,7 +288,8 @@ static void differ(const struct bytes *sheet, const char *call, uint64_t due, ui
 static void compare_loads(const struct bytes *earlier_sheet, const struct bytes *sheet, size_t list, uint32_t due) {
     size_t filled = GUARDS + (due == 0 ? list : 0);
     bool calculated = long_before && due == UNEQUAL;
-    uint32_t earlier = calculated ? due : before_loads(earlier_sheet->at, earlier_sheet->length, before + GUARDS, list);
+    uint32_t earlier =
+        calculated ? due : before_loads_in_columns(rows_before, earlier_sheet->at, earlier_sheet->length, before + GUARDS, list);
     uint32_t answer = silo_loads(sheet->at, sheet->length, after + GUARDS, list);
     bool same = earlier == due && answer == due && memcmp(before, after, sizeof after) == 0;
     bool guarded = memcmp(after, untouched, GUARDS * sizeof *after) == 0;
@@ -396,6 +398,8 @@ static void print_counts(void) {
                blank_accepted);
     if (long_before)
         printf("%" PRIu64 " of them are long bins: 20 now, by the rules before C-17 before\n", refused[UNEQUAL]);
+    if (rows_before)
+        printf("the accepted ones have rows before, and the same numbers in columns\n");
     if (no_headroom_before)
         printf("%" PRIu64 " of them go on behind the sixth record: 5 before, now as bench/sheet.c reads them\n", read_here);
 }
@@ -408,6 +412,7 @@ int main(int argc, char **argv) {
     no_headroom_before = knows_no_headroom();
     blank_is_135_before = reads_blank_as_135();
     long_before = calculates_long_bins();
+    rows_before = lists_rows();
     while (sheets - read_here < least)
         compare_round();
     print_counts();

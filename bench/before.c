@@ -1,6 +1,7 @@
 /* before CALL SHEET: times a call of the library, loads or length, and the same of an earlier one, whose names begin with before_, in turns
- * and prints the median of the rounds' ratios. Both have to give the same list. Prints nothing for a sheet that goes on behind
- * its sixth record where the earlier library is from before C-13, and for a long bin where it is from before C-17. */
+ * and prints the median of the rounds' ratios. Both have to give the same list, the earlier one put into columns where it is from before
+ * C-18. Prints nothing for a sheet that goes on behind its sixth record where the earlier library is from before C-13, and for a long bin
+ * where it is from before C-17. */
 #include "before.h"
 #include "silo.h"
 #include "turns.h"
@@ -18,7 +19,7 @@ static uint32_t before_length_call(const uint8_t *sheet, size_t sheet_len, uint3
 
 static bool same_list(const struct sheet *sheet) {
     static uint32_t before[MAX_ANSWERS], after[MAX_ANSWERS];
-    before_loads(sheet->bytes, sheet->length, before, sheet->list);
+    before_loads_in_columns(lists_rows(), sheet->bytes, sheet->length, before, sheet->list);
     silo_loads(sheet->bytes, sheet->length, after, sheet->list);
     return memcmp(before, after, sizeof after) == 0;
 }

@@ -58,19 +58,20 @@ static uint64_t wall_load(const struct curve *friction, const struct wall *wall,
     return mpfr_get_ui(t, MPFR_RNDU);
 }
 
-static void directed_row(const struct silo *s, const struct curve curves[3], const struct wall *wall, struct factors factors,
-                         uint32_t depth, uint32_t *row, mpfr_t t) {
-    uint32_t z = load_depth(s, depth);
+/* The loads at one depth. */
+static void directed_depth(const struct silo *s, const struct curve curves[3], const struct wall *wall, struct factors factors,
+                           uint32_t i, uint32_t *answers, mpfr_t t) {
+    uint32_t z = load_depth(s, s->depths[i]);
     uint64_t d_c = width_of(s), e = s->e_i > s->e_o ? s->e_i : s->e_o;
     uint64_t p_hf = pressure(&curves[0], z, t), p_wf = pressure(&curves[2], z, t), p_he = up(factors.c_h * p_hf, factors.bottom);
-    row[0] = depth;
-    row[1] = (uint32_t)p_hf;
-    row[2] = (uint32_t)p_wf;
-    row[3] = (uint32_t)pressure(&curves[1], z, t);
-    row[4] = (uint32_t)wall_load(&curves[2], wall, z, t);
-    row[5] = (uint32_t)p_he;
-    row[6] = (uint32_t)up(factors.c_w * p_wf, factors.bottom);
-    row[7] = (uint32_t)up(p_he * (d_c + 4 * e), 5 * d_c);
+    answers[place(s, SILO_Z, i)] = s->depths[i];
+    answers[place(s, SILO_P_HF, i)] = (uint32_t)p_hf;
+    answers[place(s, SILO_P_WF, i)] = (uint32_t)p_wf;
+    answers[place(s, SILO_P_VF, i)] = (uint32_t)pressure(&curves[1], z, t);
+    answers[place(s, SILO_P_W, i)] = (uint32_t)wall_load(&curves[2], wall, z, t);
+    answers[place(s, SILO_P_HE, i)] = (uint32_t)p_he;
+    answers[place(s, SILO_P_WE, i)] = (uint32_t)up(factors.c_w * p_wf, factors.bottom);
+    answers[place(s, SILO_P_P, i)] = (uint32_t)up(p_he * (d_c + 4 * e), 5 * d_c);
 }
 
 /* The least n with 0.9·μ·n² >= B², B = up(3·R·γ·1.15·Ks·sin²α). */
@@ -120,13 +121,13 @@ static void fill(const struct silo *s, const struct curve curves[3], const struc
     struct factors factors = factors_of(s);
     mpfr_t t;
     mpfr_init2(t, BITS);
-    for (uint32_t i = 0; i < s->depth_count; i++, answers += COLUMNS)
-        directed_row(s, curves, wall, factors, s->depths[i], answers, t);
-    directed_bottom(s, pressure(&curves[1], load_depth(s, foot_of(s)), t), answers);
-    uint32_t edge = 0;
+    for (uint32_t i = 0; i < s->depth_count; i++)
+        directed_depth(s, curves, wall, factors, i, answers, t);
+    uint32_t *bottom = bottom_of(s, answers), edge = 0;
+    directed_bottom(s, pressure(&curves[1], load_depth(s, foot_of(s)), t), bottom);
     for (uint32_t i = 0; i < s->strake_count; i++) {
         edge += s->strakes[i];
-        answers[BOTTOM + i] = (uint32_t)up(factors.c_h * pressure(&curves[0], load_depth(s, edge), t), factors.bottom);
+        bottom[BOTTOM + i] = (uint32_t)up(factors.c_h * pressure(&curves[0], load_depth(s, edge), t), factors.bottom);
     }
     mpfr_clear(t);
 }

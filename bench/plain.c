@@ -20,18 +20,19 @@ static struct discharge discharge_of(const struct silo *s) {
     return (struct discharge){(double)factors.c_h / factors.bottom, (double)factors.c_w / factors.bottom};
 }
 
-static void plain_row(const struct silo *s, struct discharge discharge, uint32_t depth, const struct curve curves[3], uint32_t *row) {
+/* The loads at one depth. */
+static void plain_depth(const struct silo *s, struct discharge discharge, uint32_t i, const struct curve curves[3], uint32_t *answers) {
     double d_c = width_of(s), e = s->e_i > s->e_o ? s->e_i : s->e_o;
-    double z = load_depth(s, depth) / 1e3, bracket = 1 - exp(-z / curves[2].z0);
+    double z = load_depth(s, s->depths[i]) / 1e3, bracket = 1 - exp(-z / curves[2].z0);
     double p_hf = pressure(curves[0], z), p_wf = ceil(curves[2].limit * bracket), p_he = ceil(discharge.c_h * p_hf);
-    row[0] = depth;
-    row[1] = (uint32_t)p_hf;
-    row[2] = (uint32_t)p_wf;
-    row[3] = (uint32_t)pressure(curves[1], z);
-    row[4] = (uint32_t)ceil(curves[2].limit * (z - curves[2].z0 * bracket));
-    row[5] = (uint32_t)p_he;
-    row[6] = (uint32_t)ceil(discharge.c_w * p_wf);
-    row[7] = (uint32_t)ceil(0.2 * (1 + 4 * e / d_c) * p_he);
+    answers[place(s, SILO_Z, i)] = s->depths[i];
+    answers[place(s, SILO_P_HF, i)] = (uint32_t)p_hf;
+    answers[place(s, SILO_P_WF, i)] = (uint32_t)p_wf;
+    answers[place(s, SILO_P_VF, i)] = (uint32_t)pressure(curves[1], z);
+    answers[place(s, SILO_P_W, i)] = (uint32_t)ceil(curves[2].limit * (z - curves[2].z0 * bracket));
+    answers[place(s, SILO_P_HE, i)] = (uint32_t)p_he;
+    answers[place(s, SILO_P_WE, i)] = (uint32_t)ceil(discharge.c_w * p_wf);
+    answers[place(s, SILO_P_P, i)] = (uint32_t)ceil(0.2 * (1 + 4 * e / d_c) * p_he);
 }
 
 static void plain_bottom(const struct silo *s, double radius, double p_vf, uint32_t *bottom) {
@@ -63,13 +64,13 @@ uint32_t plain_loads(const uint8_t *sheet, size_t sheet_len, uint32_t *answers, 
         {s.weight * radius, radius / (1.15 * ratio * 1.15 * friction)},
     };
     struct discharge discharge = discharge_of(&s);
-    for (uint32_t i = 0; i < s.depth_count; i++, answers += COLUMNS)
-        plain_row(&s, discharge, s.depths[i], curves, answers);
-    plain_bottom(&s, radius, pressure(curves[1], load_depth(&s, foot_of(&s)) / 1e3), answers);
-    uint32_t edge = 0;
+    for (uint32_t i = 0; i < s.depth_count; i++)
+        plain_depth(&s, discharge, i, curves, answers);
+    uint32_t *bottom = bottom_of(&s, answers), edge = 0;
+    plain_bottom(&s, radius, pressure(curves[1], load_depth(&s, foot_of(&s)) / 1e3), bottom);
     for (uint32_t i = 0; i < s.strake_count; i++) {
         edge += s.strakes[i];
-        answers[BOTTOM + i] = (uint32_t)ceil(discharge.c_h * pressure(curves[0], load_depth(&s, edge) / 1e3));
+        bottom[BOTTOM + i] = (uint32_t)ceil(discharge.c_h * pressure(curves[0], load_depth(&s, edge) / 1e3));
     }
     return 0;
 }

@@ -1,12 +1,17 @@
 /* What the measured programs share: a sheet's numbers, its reading with refusals 1 to 12, 17 and 20, its load depths and discharge factors,
- * and the silos whose sheets are measured. */
+ * the order of the answer list, and the silos whose sheets are measured. */
 #ifndef SHEET_H
 #define SHEET_H
 
+#include "silo.h"
 #include <stddef.h>
 #include <stdint.h>
 
-enum { RECORDS = 7, MAX_SHEET = 1024, MAX_STRAKES = 24, MAX_DEPTHS = 200, BOTTOM = 10, COLUMNS = 8 };
+enum { RECORDS = 7, MAX_SHEET = 1024, MAX_STRAKES = 24, MAX_DEPTHS = 200, BOTTOM = 10 };
+
+/* How many columns the answer list has. */
+enum { COLUMNS = SILO_P_P + 1 };
+
 enum { MAX_ANSWERS = COLUMNS * MAX_DEPTHS + BOTTOM + MAX_STRAKES };
 enum { LINE = 9 * COLUMNS + 1, SHORT_LINE = 9 + 1, MAX_PAGE = LINE * (1 + MAX_DEPTHS) + SHORT_LINE * (BOTTOM + MAX_STRAKES) };
 
@@ -40,6 +45,16 @@ uint32_t width_of(const struct silo *s);
 /* Where the loads at a depth are taken: the larger of 0 and z - g. */
 static inline uint32_t load_depth(const struct silo *s, uint32_t z) {
     return z > s->headroom ? z - s->headroom : 0;
+}
+
+/* Where the answer list has a load, such as SILO_P_HE, of depth i, counted from 0: all z first, then all p_hf, and so on. */
+static inline size_t place(const struct silo *s, size_t column, size_t i) {
+    return column * s->depth_count + i;
+}
+
+/* Where the bottom's numbers stand, and the strakes' after them. */
+static inline uint32_t *bottom_of(const struct silo *s, uint32_t *answers) {
+    return answers + place(s, COLUMNS, 0);
 }
 
 /* C_h and C_w, exact, over one bottom. */

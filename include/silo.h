@@ -24,12 +24,25 @@
  *   squat, 2h < 3 d_c, and h > d_c  C_h = 1 + 2 (C0 - 1) (h/d_c - 1)   C_w = 1 + 0.2 (h/d_c - 1)
  *   squat, and h <= d_c             C_h = 1                            C_w = 1
  *
- * An answer list is of u32 numbers:
+ * An answer list is of u32 numbers. For D depths:
  *
- *   for each depth, eight:  z (mm) as in the sheet, p_hf, p_wf, p_vf (Pa), P_w (N/m of perimeter), p_he, p_we, p_p (Pa)
+ *   eight columns of D:     z (mm) as in the sheet, p_hf, p_wf, p_vf (Pa), P_w (N/m of perimeter), p_he, p_we, p_p (Pa), each in the
+ *                           order of the depths; column l has depth i at l D + i, all counted from 0
  *   then ten for the bottom: the load on a flat floor (Pa) and nine zeros; or a hopper's P_n at k = 0..4 and then its P_t at
  *                           k = 0..4 (Pa), k quarters of the slope counted up from the outlet
  *   then one per strake:    p_he at its lower edge (Pa)
+ *
+ * For whoever upgrades: before version 2 a depth's eight numbers stood in a row, number l of depth i at 8 i + l. The numbers and the
+ * length are the same, so that neither compiler nor linker shows the change. Replace header and library together, compile again, and put
+ * these lines behind the #include:
+ *
+ *   #if SILO_VERSION_MAJOR != 2
+ *   #error "written for version 2 of silo.h, answer lists in columns"
+ *   #endif
+ *
+ * With them a host does not compile with the header of rows, which had no version; an unchanged host without these lines compiles as
+ * before, and reads wrong numbers. They tell of the header alone: nothing shows a library of rows linked under this header, or an old
+ * object file linked with this library.
  *
  * A page is the same numbers as text, in ASCII. Each line ends with one line feed, and each field is right-justified with spaces in nine
  * characters, a number in decimal without leading zeros:
@@ -81,6 +94,15 @@
 #ifdef __cplusplus
 extern "C" {
 #endif
+
+/* This header's version: the first number is raised where a host has to be changed, the second where something is added. */
+#define SILO_VERSION_MAJOR 2
+#define SILO_VERSION_MINOR 0
+
+/* The columns of an answer list: z in mm, SILO_P_W, which is P_w, in N/m, the others in Pa. That of p_he begins at
+ * answers + SILO_P_HE * depths and has depths numbers, depths being D, how many depths the sheet lists, not the list's length. The names
+ * are never offsets in a row. */
+enum silo_column { SILO_Z, SILO_P_HF, SILO_P_WF, SILO_P_VF, SILO_P_W, SILO_P_HE, SILO_P_WE, SILO_P_P };
 
 /* silo_answers_length and silo_page_length add this to a length, so that no length is a refusal's number. */
 #define SILO_LENGTH_MARK (UINT64_C(1) << 32)

@@ -41,7 +41,7 @@ impl Capacity {
         let [to_brim, to_surface] = [silo.wall_height(), silo.grain_height()]
             .map(|height| volume(silo, height).times(litre));
         let kilograms = Fraction::new(silo.product.weight, 10 * GRAVITY);
-        let wall = perimeter(silo.section).times(Fraction::new(report.foot()[P_W], 1000_u32));
+        let wall = perimeter(silo.section).times(Fraction::new(report.foot(P_W), 1000_u32));
         let floor = || area(silo.section).times(litre).times(Fraction::whole(loads.floor())).up();
         Capacity {
             to_brim: to_brim.down(),

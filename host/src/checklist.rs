@@ -4,7 +4,7 @@ use crate::basis::{self, Made};
 use crate::catalogue::{self, Origin};
 use crate::fraction::Fraction;
 use crate::hand::Hand;
-use crate::library::{Loads, P_VF, Z};
+use crate::library::{Loads, P_VF, ROW, Z};
 use crate::name::Name;
 use crate::number::hundredths;
 use crate::report::Report;
@@ -80,7 +80,7 @@ fn downward(report: &Report, loads: &Loads) -> Item {
     let words = match &smaller {
         None => format!(
             "no number is smaller than the one above; that is proved, and looked at in {} and {}",
-            counted(loads.rows().count(), "row"),
+            counted(loads.column(Z).len(), "row"),
             counted(strakes.len(), "strake")
         ),
         Some(place) => format!("BUT {place} is smaller than the one above: {FAULT}"),
@@ -90,7 +90,7 @@ fn downward(report: &Report, loads: &Loads) -> Item {
 
 /// The first load that is smaller than the one above it.
 fn first_smaller(loads: &Loads) -> Option<String> {
-    let rows: Vec<&[u32]> = loads.rows().collect();
+    let rows: Vec<[u32; ROW]> = loads.rows().collect();
     rows.windows(2).find_map(|pair| {
         let place = (0..basis::WALL.len()).find(|load| pair[1][load + 1] < pair[0][load + 1])?;
         Some(format!("{} at z = {} mm", basis::WALL[place].load, pair[1][Z]))
@@ -105,7 +105,7 @@ fn counted(count: usize, noun: &str) -> String {
 /// Floor or hopper beside p_vf at the wall's foot, on which they rest.
 fn bottom(report: &Report, loads: &Loads) -> Item {
     let (units, unit) = (report.units, report.units.pressure());
-    let foot = report.foot()[P_VF];
+    let foot = report.foot(P_VF);
     let difference = Hand::of(report.silo).bottom(loads, foot);
     let foot = format!("p_vf(V) {} {unit}", units.show(foot));
     let (line, numbers) = match report.silo.is_flat() {
@@ -136,7 +136,7 @@ fn bottom(report: &Report, loads: &Loads) -> Item {
 mod tests {
     use super::*;
     use crate::description::{Description, Product, Section};
-    use crate::library::ROW;
+    use crate::library::place;
     use crate::report::{Labels, Said};
     use crate::units::Units;
 
@@ -172,16 +172,16 @@ mod tests {
 
     #[test]
     fn a_wrong_number_leaves_its_lines_open() {
-        let last = (STRAKES - 1) * ROW;
         let bottom = STRAKES * ROW;
         let strakes = bottom + 10;
         for hopper in [0, 2000] {
             let ticked = |place, number: fn(u32) -> u32| ticked(hopper, place, number);
             assert_eq!(ticked(0, |z| z), [true; 4]);
-            // each load of the last row: greater, and smaller than the one above
-            for place in 1..ROW {
-                assert_eq!(ticked(last + place, |load| load + 2), [true, false, true, true]);
-                assert_eq!(ticked(last + place, |_| 1), [true, false, false, true]);
+            // each load of the last depth: greater, and smaller than the one above
+            for load in Z + 1..ROW {
+                let last = place(STRAKES, load, STRAKES - 1);
+                assert_eq!(ticked(last, |load| load + 2), [true, false, true, true]);
+                assert_eq!(ticked(last, |_| 1), [true, false, false, true]);
             }
             assert_eq!(ticked(bottom, |load| load + 1), [true, false, true, false]);
             assert_eq!(ticked(bottom + 9, |load| load + 1), [true, hopper == 0, true, hopper == 0]);

@@ -132,7 +132,7 @@ pub fn page(report: &Report, loads: &Loads, dialect: Dialect) -> String {
     let rows = Rows { dialect, cells: CELLS };
     let mut page = dialect.mark.to_string() + &description(report, rows) + &head(report, rows);
     for (i, numbers) in loads.rows().enumerate() {
-        let row = report.row(numbers);
+        let row = report.row(&numbers);
         let cells = row.iter().enumerate().map(|(i, cell)| (Z + i, dialect.number(cell)));
         page += &rows.part("depth", i + 1, &cells.collect::<Vec<_>>());
     }

@@ -5,7 +5,7 @@ use crate::basis::{Basis, Filling, Hopper, WALL, WALL_FRICTION};
 use crate::description::Description;
 use crate::discharge::Discharge;
 use crate::fraction::Fraction;
-use crate::library::{Loads, P_HE, P_HF, P_P, P_VF, P_W, P_WE, P_WF, Z};
+use crate::library::{Loads, P_HE, P_HF, P_P, P_VF, P_W, P_WE, P_WF, ROW, Z};
 
 /// What floating point may be off, Pa and N/m: far more than its error at the greatest loads, and far less than a hand sees.
 const MARGIN: f64 = 1e-6;
@@ -31,13 +31,13 @@ impl Hand<'_> {
     /// The first load of a list that is not what the hand makes, and where it stands; `edges` are the loads at the strakes' lower edges,
     /// the last of which is the wall's foot.
     pub fn difference(&self, loads: &Loads, edges: &Loads) -> Option<String> {
-        let row = |row: &[u32]| {
-            let name = WALL[self.row(row)?].load;
+        let row = |row: [u32; ROW]| {
+            let name = WALL[self.row(&row)?].load;
             Some(format!("{name} at z = {} mm", row[Z]))
         };
-        let mut strakes = edges.rows().zip(loads.strakes());
-        let strake = strakes.position(|(row, strake)| row[P_HE] != *strake);
-        let foot = edges.rows().last().map_or(0, |row| row[P_VF]);
+        let mut strakes = edges.column(P_HE).iter().zip(loads.strakes());
+        let strake = strakes.position(|(p_he, strake)| p_he != strake);
+        let foot = edges.column(P_VF).last().copied().unwrap_or(0);
         loads
             .rows()
             .chain(edges.rows())

@@ -63,7 +63,7 @@ pub fn page(report: &Report, loads: &Loads) -> String {
     let columns = report.columns();
     let rows = loads.rows().map(|row| {
         let names = columns.iter().map(|(name, _)| *name);
-        object(&names.zip(report.row(row)).collect::<Vec<(&str, String)>>())
+        object(&names.zip(report.row(&row)).collect::<Vec<(&str, String)>>())
     });
     let bottom = match silo.is_flat() {
         true => ("floor", units.show(loads.floor())),

@@ -152,9 +152,9 @@ pub fn governing<'a>(first: &'a [u32], second: &'a [u32]) -> &'a [u32] {
     }
 }
 
-/// Numbers of a depth's row: z (mm), p_hf, p_wf, p_vf (Pa), P_w (N/m), p_he, p_we, p_p (Pa).
+/// Numbers of a depth, and columns of an answer list: z (mm), p_hf, p_wf, p_vf (Pa), P_w (N/m), p_he, p_we, p_p (Pa).
 pub const ROW: usize = 8;
-/// Places in a row.
+/// The columns of an answer list, and the places in a depth's row.
 pub const Z: usize = 0;
 pub const P_HF: usize = 1;
 pub const P_WF: usize = 2;
@@ -165,6 +165,11 @@ pub const P_WE: usize = 6;
 pub const P_P: usize = 7;
 /// Numbers of the bottom: floor and nine zeros, or P_n and P_t at k = 0..4 (Pa).
 pub const BOTTOM: usize = 10;
+
+/// Where a list of so many depths has the load of one of them; all are counted from 0.
+pub fn place(depths: usize, load: usize, depth: usize) -> usize {
+    load * depths + depth
+}
 
 /// The loads of an accepted sheet.
 pub struct Loads {
@@ -189,12 +194,21 @@ impl Loads {
 
     fn parts(&self) -> (&[u32], &[u32], &[u32]) {
         let (above, strakes) = self.answers.split_at(self.answers.len() - self.strakes);
-        let (rows, bottom) = above.split_at(above.len() - BOTTOM);
-        (rows, bottom, strakes)
+        let (columns, bottom) = above.split_at(above.len() - BOTTOM);
+        (columns, bottom, strakes)
     }
 
-    pub fn rows(&self) -> impl Iterator<Item = &[u32]> {
-        self.parts().0.chunks_exact(ROW)
+    /// One load, such as `P_HE`, or `Z`, at all depths, in their order.
+    pub fn column(&self, load: usize) -> &[u32] {
+        let columns = self.parts().0;
+        let depths = columns.len() / ROW;
+        &columns[place(depths, load, 0)..][..depths]
+    }
+
+    /// All numbers of a depth, for each depth.
+    pub fn rows(&self) -> impl Iterator<Item = [u32; ROW]> + '_ {
+        let columns: [&[u32]; ROW] = std::array::from_fn(|load| self.column(load));
+        (0..columns[Z].len()).map(move |depth| columns.map(|column| column[depth]))
     }
 
     pub fn floor(&self) -> u32 {

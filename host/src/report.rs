@@ -46,9 +46,9 @@ impl<'a> Report<'a> {
         Ok(Report { file, silo, origin, labels, units, stiffened, of_sheet: false, edges })
     }
 
-    /// The loads at the wall's foot, z = V.
-    pub fn foot(&self) -> &[u32] {
-        self.edges.rows().last().unwrap_or(&[0; ROW])
+    /// A load at the wall's foot, z = V.
+    pub fn foot(&self, load: usize) -> u32 {
+        self.edges.column(load).last().copied().unwrap_or(0)
     }
 
     /// The product's numbers and where they come from.

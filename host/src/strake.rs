@@ -21,12 +21,12 @@ impl Strake {
 /// Top first, p_he as the list of loads has it.
 pub fn strakes(report: &Report, loads: &Loads) -> Vec<Strake> {
     let sizes = report.silo.edges();
-    let pressures = loads.strakes().iter().zip(report.edges.rows());
-    let strakes = sizes.zip(pressures).map(|((height, edge), (p_he, row))| Strake {
+    let pressures = loads.strakes().iter().zip(report.edges.column(P_P));
+    let strakes = sizes.zip(pressures).map(|((height, edge), (p_he, p_p))| Strake {
         height,
         edge,
         p_he: *p_he,
-        p_p: row[P_P],
+        p_p: *p_p,
     });
     strakes.collect()
 }

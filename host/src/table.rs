@@ -38,7 +38,7 @@ pub fn page(report: &Report, loads: &Loads) -> String {
     page += &line(report, columns.map(|(_, unit)| unit));
     page += &made_with(report, &basis::WALL);
     for row in loads.rows() {
-        page += &line(report, report.row(row));
+        page += &line(report, report.row(&row));
     }
     page += LEGEND;
     page += &bottom(report, loads);
@@ -133,7 +133,7 @@ fn bottom(report: &Report, loads: &Loads) -> String {
     let own = |name: &&str| all.iter().find(|made| made.load == *name).copied();
     let made =
         |names: &[&str]| made_with(report, &names.iter().filter_map(own).collect::<Vec<Made>>());
-    let foot = units.show(report.foot()[P_VF]);
+    let foot = units.show(report.foot(P_VF));
     if silo.is_flat() {
         let head = line(report, ["", "floor", "p_vf(V)"]) + &line(report, ["", unit, unit]);
         let floor = line(report, [String::new(), units.show(loads.floor()), foot]);

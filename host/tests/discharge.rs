@@ -10,16 +10,10 @@ use silo::commands::{self, Format};
 use silo::description::Description;
 use silo::discharge::{Discharge, Shape};
 use silo::fraction::Fraction;
-use silo::library::Loads;
+use silo::library::{Loads, P_HE, P_HF, P_WE, P_WF};
 use silo::text;
 use silo::units::Units;
 use wrapped::unwrapped;
-
-/// Places of a depth's row.
-const P_HF: usize = 1;
-const P_WF: usize = 2;
-const P_HE: usize = 5;
-const P_WE: usize = 6;
 
 fn up(factor: Fraction, pressure: u32) -> u128 {
     factor.times(Fraction::whole(pressure)).up()

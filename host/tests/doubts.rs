@@ -6,7 +6,7 @@ mod silos;
 use common::{sample, stored, text_with, Random, FLAT, SAMPLES};
 use silo::commands::{self, Format, Outcome};
 use silo::doubt::{self, Doubt};
-use silo::library::{self, Loads};
+use silo::library::{self, Loads, P_HE, P_HF, P_P, P_VF, P_W, P_WE, P_WF};
 use silo::units::Units;
 use silos::{any_silo, described};
 use std::path::PathBuf;
@@ -112,14 +112,6 @@ const LIGHTER: [(&str, &str, &str, &[usize]); 6] = [
     ("friction-light-drag", "friction", "0.20", &[P_WF, P_W, P_WE]),
     ("factor-light", "factor", "1.20", &[P_HE, P_P]),
 ];
-/// Places in a depth's row.
-const P_HF: usize = 1;
-const P_WF: usize = 2;
-const P_VF: usize = 3;
-const P_W: usize = 4;
-const P_HE: usize = 5;
-const P_WE: usize = 6;
-const P_P: usize = 7;
 
 #[test]
 fn what_is_said_to_be_lower_is_lower() {

@@ -14,7 +14,7 @@ use silo::discharge::{Discharge, Shape};
 use silo::doubt;
 use silo::draw;
 use silo::fraction::Fraction;
-use silo::library::Loads;
+use silo::library::{Loads, P_HE, P_HF, P_P, P_VF, P_W, P_WE, P_WF, ROW};
 use silo::report::{Labels, Report, Said, PROGRAM};
 use silo::units::Units;
 use silos::{any_silo, case, described, filled, labels, texts};
@@ -46,8 +46,9 @@ fn for_curves(silo: &Description) -> Description {
 /// A strake's number, height and lower edge, its five pressures, and p_he + p_p.
 fn rows(report: &Report) -> Vec<Vec<String>> {
     let edges = report.silo.edges().zip(report.edges.rows()).enumerate();
-    let row = |(i, ((height, edge), row)): (usize, ((u16, u64), &[u32]))| {
-        let pressures = [row[1], row[5], row[2], row[6], row[7], row[5] + row[7]];
+    let row = |(i, ((height, edge), row)): (usize, ((u16, u64), [u32; ROW]))| {
+        let discharged = row[P_HE] + row[P_P];
+        let pressures = [row[P_HF], row[P_HE], row[P_WF], row[P_WE], row[P_P], discharged];
         let lengths = [i as u64 + 1, height.into(), edge].map(|number| number.to_string());
         let shown = pressures.map(|pressure| report.units.show(pressure));
         lengths.into_iter().chain(shown).collect()
@@ -85,8 +86,8 @@ fn made_with(report: &Report) -> Vec<String> {
     let [low, high] = [90, 115].map(|times| {
         [silo.product.ratio, silo.product.friction].map(|mean| hundredths(times, mean))
     });
-    let foot = report.edges.rows().last().expect("a foot");
-    let (vertical, wall) = (units.show(foot[3]), units.show(foot[4]));
+    let foot = |load| units.show(*report.edges.column(load).last().expect("a foot"));
+    let (vertical, wall) = (foot(P_VF), foot(P_W));
     let mut said = vec![
         "equation 5.3 5.21 5.2 5.20 5.24".to_string(),
         format!("1.15 Ks (7.1, 7.3) {} the largest", [high[0].as_str(); 5].concat()),

@@ -6,7 +6,7 @@ use common::{text_with, FLAT};
 use silo::commands::{self, Format};
 use silo::description::Description;
 use silo::discharge::{Discharge, Shape};
-use silo::library::{Loads, Refusal};
+use silo::library::{Loads, Refusal, P_HE, P_P};
 use silo::name::Name;
 use silo::text;
 use silo::units::Units;
@@ -72,8 +72,8 @@ fn a_blank_factor_prints_the_loads_of_1_55() {
     }
 }
 
-/// Places of a depth's row that the factor acts on: p_he and p_p.
-const RAISED: [usize; 2] = [5, 7];
+/// The loads at a depth that the factor acts on.
+const RAISED: [usize; 2] = [P_HE, P_P];
 
 /// p_he, p_p and the strakes' numbers are no smaller, and greater unless the silo is no higher than wide; no other number differs.
 #[test]
@@ -86,7 +86,7 @@ fn beside_1_35_discharge_alone_is_greater() {
         });
         let mut greater = [0; 3];
         for (row, soft) in blank.rows().zip(soft.rows()) {
-            for (i, (load, soft)) in row.iter().zip(soft).enumerate() {
+            for (i, (load, soft)) in row.iter().zip(&soft).enumerate() {
                 match RAISED.iter().position(|place| *place == i) {
                     Some(raised) => {
                         assert!(load >= soft, "{silo:?}");

@@ -9,7 +9,7 @@ use silo::commands::{self, Format};
 use silo::description::Description;
 use silo::fraction::Fraction;
 use silo::hand::Hand;
-use silo::library::Loads;
+use silo::library::{self, Loads};
 use silo::units::Units;
 use std::collections::HashMap;
 
@@ -59,7 +59,7 @@ impl Page {
     }
 }
 
-/// Places in a row behind its part.
+/// Places in a row of the page, behind its part.
 const Z: usize = 1;
 const P_HF: usize = 2;
 const P_WF: usize = 3;
@@ -208,13 +208,13 @@ fn a_table_has_digits_enough() {
         for (place, load) in ["p_hf", "p_wf", "p_vf", "P_w"].into_iter().enumerate() {
             let [limit, z0] = shown(&table, load);
             for row in loads(&silo).rows() {
-                let depth = f64::from(row[0].saturating_sub(silo.headroom));
+                let depth = f64::from(row[library::Z].saturating_sub(silo.headroom));
                 let c_z = 1.0 - (-depth / z0).exp();
                 let made = match load {
                     "P_w" => limit * (depth - z0 * c_z) / 1000.0,
                     _ => limit * c_z,
                 };
-                let over = f64::from(row[1 + place]) - made;
+                let over = f64::from(row[library::P_HF + place]) - made;
                 assert!((-0.25..2.25).contains(&over), "{load} at {depth}: {over} in {silo:?}");
             }
         }

@@ -6,7 +6,7 @@ mod wrapped;
 use common::{text_with, Random, FLAT};
 use silo::commands::{self, Format};
 use silo::description::Description;
-use silo::library::{Loads, P_W, ROW};
+use silo::library::{Loads, P_HE, P_HF, P_VF, P_W, ROW, Z};
 use silo::text;
 use silo::units::Units;
 use wrapped::unwrapped;
@@ -86,12 +86,12 @@ fn loads_are_taken_below_the_surface() {
         let [with, without] = any_silos(&mut random);
         let (lower, full) = (loads(&with), at_load_depths(&with, &without));
         for (row, z) in lower.rows().zip(&with.depths) {
-            assert_eq!(row[0], *z);
+            assert_eq!(row[Z], *z);
             let depth = z.saturating_sub(with.headroom);
-            let same = full.rows().find(|row| row[0] == depth).expect("the depth");
-            assert_eq!(row[1..=P_W], same[1..=P_W], "{z}: {with:?}");
+            let same = full.rows().find(|row| row[Z] == depth).expect("the depth");
+            assert_eq!(row[P_HF..=P_W], same[P_HF..=P_W], "{z}: {with:?}");
             if depth == 0 {
-                assert_eq!(row[1..], [0; ROW - 1], "{z}: {with:?}");
+                assert_eq!(row[P_HF..], [0; ROW - 1], "{z}: {with:?}");
             }
         }
     }
@@ -100,26 +100,24 @@ fn loads_are_taken_below_the_surface() {
 /// Strakes have p_he of their lower edge, and the floor rests on p_vf at the wall's foot; no load is greater than without headroom.
 #[test]
 fn edges_and_bottom_follow_the_surface() {
-    const P_VF: usize = 3;
-    const P_HE: usize = 5;
     let mut random = Random(17);
     for _ in 0..300 {
         let [with, without] = any_silos(&mut random);
         let [lower, full] = [&with, &without].map(loads);
         for ((_, edge), p_he) in with.edges().zip(lower.strakes()) {
-            let row = lower.rows().find(|row| u64::from(row[0]) == edge).expect("the edge");
+            let row = lower.rows().find(|row| u64::from(row[Z]) == edge).expect("the edge");
             assert_eq!(row[P_HE], *p_he, "{with:?}");
         }
-        let foot = lower.rows().last().expect("the foot");
+        let foot = lower.column(P_VF).last().expect("the foot");
         match with.is_flat() {
-            true => assert_eq!(u64::from(lower.floor()), (12 * u64::from(foot[P_VF])).div_ceil(10)),
+            true => assert_eq!(u64::from(lower.floor()), (12 * u64::from(*foot)).div_ceil(10)),
             false => {
                 let pairs = lower.hopper().zip(full.hopper());
                 assert!(pairs.into_iter().all(|(a, b)| a.1 <= b.1 && a.2 <= b.2), "{with:?}");
             }
         }
         let rows = lower.rows().zip(full.rows());
-        assert!(rows.into_iter().all(|(a, b)| a.iter().zip(b).all(|(a, b)| a <= b)), "{with:?}");
+        assert!(rows.into_iter().all(|(a, b)| a.iter().zip(&b).all(|(a, b)| a <= b)), "{with:?}");
         assert!(lower.floor() <= full.floor());
     }
 }
@@ -133,9 +131,9 @@ fn a_wall_over_ten_widths() {
     let silo = silo("67001 mm");
     assert_eq!((silo.height(), silo.grain_height(), silo.built_height()), (4999, 4999, 72_000));
     let loads = loads(&silo);
-    let is_loaded = |row: &[u32]| row[1..].iter().any(|load| *load > 0);
+    let is_loaded = |row: &[u32]| row[P_HF..].iter().any(|load| *load > 0);
     let first = loads.rows().find(|row| is_loaded(row)).expect("a load");
-    assert_eq!(first[0], 67_200);
+    assert_eq!(first[Z], 67_200);
 }
 
 /// What the text, the table, CSV, JSON and the drawing say of it, and that none of them does without.

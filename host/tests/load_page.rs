@@ -43,15 +43,16 @@ fn a_page_is_the_answer_list_in_fields_of_nine() {
         let sheet = silo.to_bytes();
         let mut answers = vec![0; library::answers_length(&sheet).expect("an accepted silo")];
         library::fill_loads(&sheet, &mut answers).expect("loads");
-        let (rows, rest) = answers.split_at(ROW * silo.depths.len());
+        let (depths, strakes) = (silo.depths.len(), silo.strakes.len());
+        let (columns, rest) = answers.split_at(ROW * depths);
+        let row = |depth| columns.iter().skip(depth).step_by(depths).collect::<Vec<&u32>>();
         let expected: String = [line(&["z", "phf", "pwf", "pvf", "PW", "phe", "pwe", "pp"])]
             .into_iter()
-            .chain(rows.chunks_exact(ROW).map(line))
+            .chain((0..depths).map(|depth| line(&row(depth))))
             .chain(rest.chunks_exact(1).map(line))
             .collect();
         let page = page(&silo);
         assert_eq!(page, expected);
-        let (depths, strakes) = (silo.depths.len(), silo.strakes.len());
         assert_eq!(page.len(), 73 * (1 + depths) + 10 * (BOTTOM + strakes));
         assert!(page.is_ascii());
     }

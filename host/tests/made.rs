@@ -8,6 +8,7 @@ use any::accepted;
 use common::{only_doubts, sample, text_with, Random, FLAT, HEAVIEST, SAMPLES};
 use silo::commands::{self, Format};
 use silo::description::{Description, Section};
+use silo::library::{Loads, P_W};
 use silo::units::Units;
 use wrapped::unwrapped;
 
@@ -219,12 +220,12 @@ fn capacity_and_totals() {
         below("volume to the brim", area * height(silo.wall_height()) + hopper);
         below("volume to the grain's surface", full);
         below("mass by the weight", full * f64::from(silo.product.weight) / 9810.0);
-        let loads = silo::library::Loads::of(&silo.to_bytes(), silo.strakes.len()).expect("loads");
+        let loads = Loads::of(&silo.to_bytes(), silo.strakes.len()).expect("loads");
         let above = |name: &str, due: f64| {
             let over = order(&table, name) - due / 1000.0;
             assert!((-1e-12 * due..0.001001).contains(&over), "{name}: {due}, {silo:?}");
         };
-        let foot = loads.rows().last().expect("the foot")[4];
+        let foot = *loads.column(P_W).last().expect("the foot");
         above("P_w(V) times perimeter", f64::from(foot) * perimeter);
         let slenderness = silo.height() as f64 / f64::from(silo.section.shorter_side());
         let factor = (1.0 + 0.2 * (slenderness - 1.0)).clamp(1.0, 1.1);

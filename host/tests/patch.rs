@@ -8,7 +8,7 @@ use common::{only_doubts, stored, text_with, Random, FLAT};
 use silo::commands::{self, Format, Outcome};
 use silo::description::{Description, Section};
 use silo::files::Kind;
-use silo::library::{self, Loads, Refusal, ShellPatch, SHELL_REPLY};
+use silo::library::{self, Loads, Refusal, ShellPatch, P_P, SHELL_REPLY};
 use silo::text;
 use silo::units::Units;
 use silos::any_silo;
@@ -26,8 +26,7 @@ fn described(text: &str) -> Description {
 fn p_p(silo: &Description, depth: u32) -> Option<u32> {
     let silo = Description { depths: vec![depth], ..silo.clone() };
     let loads = Loads::of(&silo.to_bytes(), silo.strakes.len()).ok()?;
-    let p_p = loads.rows().next().map(|row| row[7]);
-    p_p
+    loads.column(P_P).first().copied()
 }
 
 /// Any accepted silo of those in `silos`, all of them circles, with a depth and its p_p.

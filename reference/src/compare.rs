@@ -1,21 +1,23 @@
-//! The comparison of a library with document 01 and with C-11 and C-13 to C-17 of document 02, for sheets of any kind.
+//! The comparison of a library with document 01 and with C-11 and C-13 to C-18 of document 02, for sheets of any kind.
 //!
-//! For an accepted sheet: filling pressures and P_w inside their bands, each load made from filling equal to its formula over the
-//! filling pressures and inside its allowance, all at the load depth, nothing falling with depth; the page of these numbers, and the patch
-//! round its shell at depths given with it. For a refused one: its number from every call, and lists and buffer as they were; but the length
-//! calls measure a long bin, or tell its next refusal. For a sheet of six records, accepted or not: the same with a headroom of
-//! 0. For every sheet made blank, accepted or not: the same with 155 and with 135 written in.
+//! For an accepted sheet, its list read in columns: filling pressures and P_w inside their bands, each load made from filling equal to its
+//! formula over the filling pressures and inside its allowance, all at the load depth, nothing falling with depth; the page of these numbers,
+//! and the patch round its shell at depths given with it. For a refused one: its number from every call, and lists and buffer as they were;
+//! but the length calls measure a long bin, or tell its next refusal. For a sheet of six records, accepted or not: the same with a headroom
+//! of 0. For every sheet made blank, accepted or not: the same with 155 and with 135 written in.
 
 mod pages;
 mod shell;
 
+use crate::answers::{Answers, COLUMNS, LOADS, P_HE, P_HF, P_P, P_VF, P_W, P_WE, P_WF, Z};
 use crate::calls::{expect, Calls, Difference, Library, Outcome, UNTOUCHED, UNTOUCHED_BYTE};
 use crate::formulas::{self, Discharge, Filling};
 use crate::fraction::{fraction, least, whole, Fraction, Real};
 use crate::sheet::{measure, parse, records, told, with_factor, Silo};
-use crate::{catalogue, governing, page};
+use crate::{answers, catalogue, governing, page};
 use pages::{BUFFERS, DIGITS, EACH, EXACT};
 use shell::{ANSWERS, GIVEN, INSIDE};
+use std::array;
 use std::fmt;
 use std::ops::Range;
 
@@ -82,11 +84,13 @@ const PLACES: [&str; 3] = ["above the surface", "at it", "below"];
 /// What was compared.
 #[derive(Default)]
 pub struct Tally {
-    /// Accepted sheets by h/d_c, by section, and by headroom; those of them with a blank factor by h/d_c.
+    /// Accepted sheets by h/d_c, by section, and by headroom; those of them with a blank factor by h/d_c; those with more than one depth,
+    /// since the list of one is the same in rows and in columns.
     shapes: [u64; SHAPES.len()],
     sections: [u64; SECTIONS.len()],
     headrooms: [u64; HEADROOMS.len()],
     blanks: [u64; BLANKS.len()],
+    several_depths: u64,
     /// Sheets that are made blank, each beside the same with 135 and with 155: accepted ones, and refused ones by number.
     pub beside: [u64; BESIDE.len()],
     blank_refused: [u64; NUMBERS],
@@ -134,7 +138,7 @@ impl Tally {
     }
 
     /// The kinds that accepted sheets, their rows, page calls and shell patch calls are told apart by, with the count of each.
-    fn kinds(&self) -> [(&str, Vec<(&str, u64)>); 9] {
+    fn kinds(&self) -> [(&str, Vec<(&str, u64)>); 10] {
         let counted = |names: &[&'static str], counts: &[u64]| {
             names.iter().copied().zip(counts.iter().copied()).collect()
         };
@@ -142,6 +146,7 @@ impl Tally {
             ("accepted, by h/d_c", counted(&SHAPES, &self.shapes)),
             ("accepted, by section", counted(&SECTIONS, &self.sections)),
             ("accepted, by headroom", counted(&HEADROOMS, &self.headrooms)),
+            ("accepted, by depths", vec![("more than one", self.several_depths)]),
             ("accepted with a blank factor, by h/d_c", counted(&BLANKS, &self.blanks)),
             ("accepted and made blank, beside 135", counted(&BESIDE, &self.beside)),
             ("rows under a headroom", counted(&PLACES, &self.places)),
@@ -201,9 +206,7 @@ impl fmt::Display for Tally {
     }
 }
 
-/// A row of the answer list.
-type Row = [u64; 8];
-const COLUMNS: [&str; 8] = ["z", "p_hf", "p_wf", "p_vf", "P_w", "p_he", "p_we", "p_p"];
+type Row = answers::Row<u64>;
 /// A row and its load depth.
 type AtDepth = (u64, Row);
 
@@ -323,9 +326,14 @@ impl<'a> Comparison<'a> {
         let [blank, soft, careful] = silos.each_ref().map(|silo| self.answers(silo));
         let (blank, soft) = (blank?, soft?);
         expect(blank == careful?, &bytes, || "a blank factor's list is not that of 155".into())?;
-        let bottom = 8 * silo.depths.len();
-        for (i, (with_blank, with_soft)) in blank.iter().zip(&soft).enumerate() {
-            let discharge = i >= bottom + 10 || i < bottom && [5, 7].contains(&(i % 8));
+        let discharge = Answers {
+            rows: vec![array::from_fn(|load| [P_HE, P_P].contains(&load)); blank.rows.len()],
+            bottom: vec![false; blank.bottom.len()],
+            strakes: vec![true; blank.strakes.len()],
+        };
+        let pairs = blank.list(COLUMNS).into_iter().zip(soft.list(COLUMNS));
+        let numbers = pairs.zip(discharge.list(COLUMNS));
+        for (i, ((with_blank, with_soft), discharge)) in numbers.enumerate() {
             let holds = with_blank == with_soft || discharge && with_blank > with_soft;
             expect(holds, &bytes, || {
                 format!("number {i} is {with_blank} with a blank factor, {with_soft} with 135")
@@ -362,8 +370,8 @@ impl<'a> Comparison<'a> {
         expect(same, bytes, || format!("refusal {refusal} changed the list of {length}"))
     }
 
-    /// The list of an accepted sheet, whose page has its numbers.
-    pub fn answers(&mut self, silo: &Silo) -> Result<Vec<u64>, Difference> {
+    /// The numbers of an accepted sheet's list, which its page has too.
+    pub fn answers(&mut self, silo: &Silo) -> Result<Answers<u64>, Difference> {
         self.answers_and_pages(silo, EXACT)
     }
 
@@ -372,51 +380,51 @@ impl<'a> Comparison<'a> {
         &mut self,
         silo: &Silo,
         buffers: Range<usize>,
-    ) -> Result<Vec<u64>, Difference> {
+    ) -> Result<Answers<u64>, Difference> {
         let bytes = silo.sheet();
         self.told(&bytes)?;
         let (answer, list) = self.calls.loads(&bytes, silo.answers_length())?;
         expect(answer == 0, &bytes, || format!("answer {answer} for an accepted sheet"))?;
         let list: Vec<u64> = list.into_iter().map(u64::from).collect();
-        self.pages(&bytes, Ok((silo, &list)), buffers)?;
-        Ok(list)
+        let answers = Answers::read(COLUMNS, silo.depths.len(), &list);
+        self.pages(&bytes, Ok((silo, &answers)), buffers)?;
+        Ok(answers)
     }
 
     /// An accepted sheet, beside one that lists its lower edges: the last of them is V.
     pub fn accepted(&mut self, silo: &Silo) -> Outcome {
         let bytes = silo.sheet();
         let at_edges = Silo { depths: silo.edges(), ..silo.clone() };
-        let (list, edge_list) = (self.answers_and_pages(silo, EACH)?, self.answers(&at_edges)?);
-        let (listed, edges) = (rows(silo, &list), rows(&at_edges, &edge_list));
+        let (listed, edges) = (self.answers_and_pages(silo, EACH)?, self.answers(&at_edges)?);
         let fillings: Vec<Filling> =
             at_edges.depths.iter().map(|z| formulas::filling(silo, *z)).collect();
-        for (row, z) in listed.iter().zip(&silo.depths) {
+        for (row, z) in listed.rows.iter().zip(&silo.depths) {
             match at_edges.depths.iter().position(|edge| edge == z) {
                 Some(i) => self.row(silo, row, *z, &fillings[i])?,
                 None => self.row(silo, row, *z, &formulas::filling(silo, *z))?,
             }
         }
-        for (row, (z, filling)) in edges.iter().zip(at_edges.depths.iter().zip(&fillings)) {
+        for (row, (z, filling)) in edges.rows.iter().zip(at_edges.depths.iter().zip(&fillings)) {
             self.row(silo, row, *z, filling)?;
         }
-        let below_rows = &list[8 * silo.depths.len()..];
-        expect(below_rows == &edge_list[8 * at_edges.depths.len()..], &bytes, || {
-            "bottom or strakes differ with the listed depths".into()
-        })?;
-        judge_bottom(silo, &below_rows[..10], edges[edges.len() - 1][3], &fillings)?;
-        judge_strakes(silo, &below_rows[10..], &edges, &fillings)?;
-        for length in [0, list.len() - 1, list.len() + 1, 2 * list.len()] {
+        let same = listed.bottom == edges.bottom && listed.strakes == edges.strakes;
+        expect(same, &bytes, || "bottom or strakes differ with the listed depths".into())?;
+        judge_bottom(silo, &listed.bottom, edges.rows[edges.rows.len() - 1][P_VF], &fillings)?;
+        judge_strakes(silo, &listed.strakes, &edges.rows, &fillings)?;
+        let due = silo.answers_length();
+        for length in [0, due - 1, due + 1, 2 * due] {
             self.untouched(&bytes, 14, length)?;
             self.tally.refused[14] += 1;
         }
-        let all = at_load_depths(silo, [listed, edges].concat());
-        self.never_falls(&bytes, all, &[1, 2, 3, 5, 6, 7])?;
+        let all = at_load_depths(silo, [listed.rows, edges.rows].concat());
+        self.never_falls(&bytes, all, &[P_HF, P_WF, P_VF, P_HE, P_WE, P_P])?;
         self.patches(&bytes, 0)?;
-        self.zero_headroom(silo, &[list.len(), list.len() + 1])?;
+        self.zero_headroom(silo, &[due, due + 1])?;
         self.blank_factor(silo)?;
         self.tally.shapes[shape(silo)] += 1;
         self.tally.sections[section(silo)] += 1;
         self.tally.headrooms[headroom(silo)] += 1;
+        self.tally.several_depths += u64::from(silo.depths.len() > 1);
         self.tally.blanks[blank(silo)] += u64::from(silo.factor == 0);
         self.tally.strakes += silo.strakes.len() as u64;
         Ok(())
@@ -424,14 +432,14 @@ impl<'a> Comparison<'a> {
 
     /// The rows that an accepted sheet lists.
     fn listed(&mut self, silo: &Silo) -> Result<Vec<AtDepth>, Difference> {
-        Ok(at_load_depths(silo, rows(silo, &self.answers(silo)?)))
+        Ok(at_load_depths(silo, self.answers(silo)?.rows))
     }
 
     /// Two accepted sheets with equal first two records: the filling pressures, which section, product and load depth alone decide. The
     /// discharge loads rest on h too, in which the sheets may differ; the patches have an order where their factors do.
     pub fn pair(&mut self, one: &Silo, other: &Silo) -> Outcome {
         let both = [self.listed(one)?, self.listed(other)?].concat();
-        self.never_falls(&[one.sheet(), other.sheet()].concat(), both, &[1, 2, 3])?;
+        self.never_falls(&[one.sheet(), other.sheet()].concat(), both, &[P_HF, P_WF, P_VF])?;
         self.pair_patches(one, other)?;
         self.tally.pairs += 1;
         self.tally.unlike_pairs += u64::from(Discharge::of(one) != Discharge::of(other));
@@ -445,25 +453,27 @@ impl<'a> Comparison<'a> {
     pub fn level(&mut self, silo: &Silo, level: &Silo) -> Outcome {
         let (under, level_rows) = (self.listed(silo)?, self.listed(level)?);
         for (depth, row) in under {
-            let same = level_rows.iter().any(|(z, at_z)| *z == depth && at_z[1..5] == row[1..5]);
+            let filling = &row[P_HF..=P_W];
+            let same =
+                level_rows.iter().any(|(z, at_z)| *z == depth && &at_z[P_HF..=P_W] == filling);
             expect(same, &[silo.sheet(), level.sheet()].concat(), || {
-                format!("filling at {} differs from that at {depth} of a level silo", row[0])
+                format!("filling at {} differs from that at {depth} of a level silo", row[Z])
             })?;
         }
         self.tally.levels += u64::from(silo.g() > 0);
         Ok(())
     }
 
-    /// Nothing falls with the load depth, and equal ones have equal numbers, in those columns. P_w is not among them, since document 01
+    /// Nothing falls with the load depth, and equal ones have equal numbers, of those loads. P_w is not among them, since document 01
     /// asks this of pressures; it is only counted. On one sheet the load depth never falls with z.
-    fn never_falls(&mut self, bytes: &[u8], mut rows: Vec<AtDepth>, columns: &[usize]) -> Outcome {
+    fn never_falls(&mut self, bytes: &[u8], mut rows: Vec<AtDepth>, loads: &[usize]) -> Outcome {
         rows.sort();
         for pair in rows.windows(2) {
             let [(upper, above), (lower, below)] = [pair[0], pair[1]];
-            self.tally.line_falls += u64::from(above[4] > below[4]);
-            for column in columns {
-                let (above, below) = (above[*column], below[*column]);
-                let name = COLUMNS[*column];
+            self.tally.line_falls += u64::from(above[P_W] > below[P_W]);
+            for load in loads {
+                let (above, below) = (above[*load], below[*load]);
+                let name = LOADS[*load];
                 expect(above <= below, bytes, || {
                     format!("{name} falls between the load depths {upper} and {lower}")
                 })?;
@@ -476,27 +486,28 @@ impl<'a> Comparison<'a> {
 
     fn row(&mut self, silo: &Silo, row: &Row, depth: u64, exact: &Filling) -> Outcome {
         let [z, p_hf, p_wf, _, line, p_he, p_we, p_p] = *row;
-        let named = |column: usize| format!("{} at depth {depth}", COLUMNS[column]);
+        let named = |load: usize| format!("{} at depth {depth}", LOADS[load]);
         expect_of(z == depth, silo, || format!("z is {z} at depth {depth}"))?;
-        let zeros = silo.load_depth(depth) > 0 || row[1..] == [0; 7];
+        let zeros = silo.load_depth(depth) > 0 || row[P_HF..] == [0; 7];
         expect_of(zeros, silo, || format!("load depth 0 has {row:?}"))?;
-        let pressures = [&exact.horizontal, &exact.friction, &exact.vertical];
-        for (i, pressure) in pressures.into_iter().enumerate() {
-            band(silo, &named(i + 1), row[i + 1], pressure, 2)?;
+        let pressures =
+            [(P_HF, &exact.horizontal), (P_WF, &exact.friction), (P_VF, &exact.vertical)];
+        for (load, pressure) in pressures {
+            band(silo, &named(load), row[load], pressure, 2)?;
             let tight = pressure.plus(&Real::exactly(fraction(65, 64)));
             self.tally.pressures += 1;
-            self.tally.tight += u64::from(!tight.is_at_most(&whole(row[i + 1])));
+            self.tally.tight += u64::from(!tight.is_at_most(&whole(row[load])));
         }
-        band(silo, &named(4), line, &exact.line, 2)?;
+        band(silo, &named(P_W), line, &exact.line, 2)?;
 
         let (Discharge { c_h, c_w }, patch) = (Discharge::of(silo), formulas::patch(silo));
-        made(silo, &named(5), p_he, &whole(p_hf).times(&c_h))?;
-        made(silo, &named(6), p_we, &whole(p_wf).times(&c_w))?;
-        made(silo, &named(7), p_p, &whole(p_he).times(&patch))?;
+        made(silo, &named(P_HE), p_he, &whole(p_hf).times(&c_h))?;
+        made(silo, &named(P_WE), p_we, &whole(p_wf).times(&c_w))?;
+        made(silo, &named(P_P), p_p, &whole(p_he).times(&patch))?;
         let horizontal = exact.horizontal.times(&c_h);
-        band(silo, &named(5), p_he, &horizontal, 5)?;
-        band(silo, &named(6), p_we, &exact.friction.times(&c_w), 4)?;
-        band(silo, &named(7), p_p, &horizontal.times(&patch), 3)?;
+        band(silo, &named(P_HE), p_he, &horizontal, 5)?;
+        band(silo, &named(P_WE), p_we, &exact.friction.times(&c_w), 4)?;
+        band(silo, &named(P_P), p_p, &horizontal.times(&patch), 3)?;
         self.tally.rows += 1;
         if silo.g() > 0 {
             let place = usize::from(depth >= silo.g()) + usize::from(depth > silo.g());
@@ -537,13 +548,8 @@ fn beside_length(bytes: &[u8], refusal: u64, told: u64) -> Outcome {
     })
 }
 
-fn rows(silo: &Silo, list: &[u64]) -> Vec<Row> {
-    let rows = list[..8 * silo.depths.len()].chunks(8);
-    rows.map(|row| row.try_into().expect("eight numbers")).collect()
-}
-
 fn at_load_depths(silo: &Silo, rows: Vec<Row>) -> Vec<AtDepth> {
-    rows.into_iter().map(|row| (silo.load_depth(row[0]), row)).collect()
+    rows.into_iter().map(|row| (silo.load_depth(row[Z]), row)).collect()
 }
 
 /// What holds of a silo, whose sheet is written for a difference alone.
@@ -607,7 +613,7 @@ fn judge_strakes(silo: &Silo, strakes: &[u64], edges: &[Row], fillings: &[Fillin
     let c_h = Discharge::of(silo).c_h;
     for (i, load) in strakes.iter().enumerate() {
         let name = format!("strake {i}");
-        made(silo, &name, *load, &whole(edges[i][1]).times(&c_h))?;
+        made(silo, &name, *load, &whole(edges[i][P_HF]).times(&c_h))?;
         band(silo, &name, *load, &fillings[i].horizontal.times(&c_h), 5)?;
     }
     Ok(())

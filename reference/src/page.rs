@@ -1,9 +1,20 @@
 //! The load page of C-15 of document 02: its text, its length, what its call answers to any sheet and buffer, and what the program prints.
 
+use crate::answers::{Answers, P_HE, P_HF, P_P, P_VF, P_W, P_WE, P_WF, Z};
 use crate::sheet::Silo;
 use std::fmt::Display;
 
-const HEADING: [&str; 8] = ["z", "phf", "pwf", "pvf", "PW", "phe", "pwe", "pp"];
+/// The names of the heading, and the load below each.
+const HEADING: [(&str, usize); 8] = [
+    ("z", Z),
+    ("phf", P_HF),
+    ("pwf", P_WF),
+    ("pvf", P_VF),
+    ("PW", P_W),
+    ("phe", P_HE),
+    ("pwe", P_WE),
+    ("pp", P_P),
+];
 
 /// Characters of a field.
 const FIELD: usize = 9;
@@ -28,12 +39,12 @@ pub fn line(fields: &[impl Display]) -> String {
     fields.chain(["\n".into()]).collect()
 }
 
-/// The page of a silo with that answer list.
-pub fn text(silo: &Silo, list: &[u64]) -> String {
-    let (rows, below) = list.split_at(8 * silo.depths.len());
-    let rows = rows.chunks(8).map(line);
-    let below = below.chunks(1).map(line);
-    [line(&HEADING)].into_iter().chain(rows).chain(below).collect()
+/// The page of those answers.
+pub fn text(answers: &Answers<u64>) -> String {
+    let heading = line(&HEADING.map(|(name, _)| name));
+    let rows = answers.rows.iter().map(|row| line(&HEADING.map(|(_, load)| row[load])));
+    let below = answers.bottom.iter().chain(&answers.strakes).map(|number| line(&[number]));
+    [heading].into_iter().chain(rows).chain(below).collect()
 }
 
 /// What the program prints: the page, or the refusal alone.
@@ -41,8 +52,8 @@ pub fn printed(page: Result<String, u64>) -> String {
     page.unwrap_or_else(|refusal| format!("REFUSED {refusal}\n"))
 }
 
-/// The numbers of a page with so many depths, read by their places alone; none where a field has no number, or where one of the eight of a
-/// line does not begin with a space, so that neighbours run together.
+/// The numbers of a page with so many depths, line by line, read by their places alone; none where a field has no number, or where one of
+/// the eight of a line does not begin with a space, so that neighbours run together.
 pub fn numbers(page: &[u8], depths: usize) -> Option<Vec<u64>> {
     let mut numbers = Vec::new();
     for (i, line) in page.strip_suffix(b"\n")?.split(|byte| *byte == b'\n').enumerate() {

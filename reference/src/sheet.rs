@@ -1,6 +1,8 @@
 //! A sheet and the order in which it is refused, as document 01 writes them down, without 13, which C-11 of document 02 retires, and with
 //! the headroom and 17 of C-13, the depth given with it of C-16 and, for loads alone, 20 of C-17.
 
+use crate::answers::{BOTTOM, LOADS};
+
 /// What a sheet says; lengths in mm, weight in N/m³, ratio, friction and factor in hundredths.
 #[derive(Clone, Debug, PartialEq, Eq)]
 pub struct Silo {
@@ -64,7 +66,7 @@ impl Silo {
     }
 
     pub fn answers_length(&self) -> usize {
-        8 * self.depths.len() + 10 + self.strakes.len()
+        LOADS.len() * self.depths.len() + BOTTOM + self.strakes.len()
     }
 
     pub fn sheet(&self) -> Vec<u8> {

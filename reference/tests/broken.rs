@@ -1,14 +1,17 @@
 //! Broken stand-ins for the library: the comparison has to find each of them in what the other tests compare.
 //!
 //! Each calls the library and changes what it leaves or answers: the worthless versions of document 01, its traps, single numbers and
-//! limits one off, other discharge factors, a headroom or a blank factor that is read otherwise, rules in another order, sides judged
-//! otherwise, pages of another layout, other patches round a shell, and memory that is written to where it must not be.
+//! limits one off, lists in another order, other discharge factors, a headroom or a blank factor that is read otherwise, rules in another
+//! order, sides judged otherwise, pages of another layout, other patches round a shell, and memory that is written to where it must not be.
 
 mod pages;
 mod shells;
 mod sides;
 
 use pages::{page, page_length, Pages, WritePage};
+use reference::answers::{
+    Answers, Order, Row, BOTTOM, COLUMNS, LOADS, P_HE, P_HF, P_P, P_VF, P_W, P_WE, P_WF, ROWS, Z,
+};
 use reference::calls::{Library, Outcome, UNTOUCHED};
 use reference::compare::Comparison;
 use reference::exponential::exponential;
@@ -134,19 +137,28 @@ fn chosen(first: &[u32], second: &[u32], second_governs: bool) -> u32 {
     }
 }
 
-/// The library's answer, and its list changed where it succeeds.
-fn filled(sheet: &[u8], list: &mut [u32], change: impl Fn(&Silo, &mut [u32])) -> u32 {
+/// The library's answer, and its numbers put on the list otherwise where it succeeds.
+fn listed(sheet: &[u8], list: &mut [u32], other: impl Fn(&Silo, Answers<u32>) -> Vec<u32>) -> u32 {
     let answer = loads(sheet, list);
     if let (0, Ok(silo)) = (answer, parse(sheet)) {
-        change(&silo, list);
+        let answers = Answers::read(COLUMNS, silo.depths.len(), list);
+        list.copy_from_slice(&other(&silo, answers));
     }
     answer
 }
 
+/// The library's answer, and its numbers changed where it succeeds.
+fn filled(sheet: &[u8], list: &mut [u32], change: impl Fn(&Silo, &mut Answers<u32>)) -> u32 {
+    listed(sheet, list, |silo, mut answers| {
+        change(silo, &mut answers);
+        answers.list(COLUMNS)
+    })
+}
+
 /// Each row below the surface changed.
-fn each_row(silo: &Silo, list: &mut [u32], change: impl Fn(&mut [u32])) {
-    let rows = list[..8 * silo.depths.len()].chunks_mut(8);
-    rows.filter(|row| silo.load_depth(row[0].into()) > 0).for_each(change);
+fn each_row(silo: &Silo, answers: &mut Answers<u32>, change: impl Fn(&mut Row<u32>)) {
+    let rows = answers.rows.iter_mut();
+    rows.filter(|row| silo.load_depth(row[Z].into()) > 0).for_each(change);
 }
 
 /// A number times a factor, rounded up.
@@ -155,34 +167,31 @@ fn magnified(number: u32, factor: &Fraction) -> u32 {
 }
 
 /// p_he and p_p made from a row's p_hf.
-fn put_discharge(silo: &Silo, row: &mut [u32], c_h: &Fraction) {
-    row[5] = magnified(row[1], c_h);
-    row[7] = magnified(row[5], &formulas::patch(silo));
+fn put_discharge(silo: &Silo, row: &mut Row<u32>, c_h: &Fraction) {
+    row[P_HE] = magnified(row[P_HF], c_h);
+    row[P_P] = magnified(row[P_HE], &formulas::patch(silo));
 }
 
 /// A p_hf, with p_he and p_p made from it.
-fn put_horizontal(silo: &Silo, row: &mut [u32], p_hf: u32) {
-    row[1] = p_hf;
+fn put_horizontal(silo: &Silo, row: &mut Row<u32>, p_hf: u32) {
+    row[P_HF] = p_hf;
     put_discharge(silo, row, &Discharge::of(silo).c_h);
 }
 
 /// Strakes made from p_hf at their lower edges.
-fn put_strakes(silo: &Silo, list: &mut [u32], c_h: &Fraction, p_hf: Vec<u32>) {
-    let strakes = list.len() - silo.strakes.len();
-    for (load, p_hf) in list[strakes..].iter_mut().zip(p_hf) {
-        *load = magnified(p_hf, c_h);
-    }
+fn put_strakes(answers: &mut Answers<u32>, c_h: &Fraction, p_hf: Vec<u32>) {
+    answers.strakes = p_hf.into_iter().map(|p_hf| magnified(p_hf, c_h)).collect();
 }
 
 /// p_hf at every depth as P times a bracket of q, rounded up, with all that is made from it.
-fn put_bracket(silo: &Silo, list: &mut [u32], bracket: fn(&Fraction) -> Fraction) {
+fn put_bracket(silo: &Silo, answers: &mut Answers<u32>, bracket: fn(&Fraction) -> Fraction) {
     let p_hf = |depth: u64| {
         let q = formulas::q(silo, HORIZONTAL, depth);
         bracket(&q).times(&formulas::before_bracket(silo)[0]).up() as u32
     };
-    each_row(silo, list, |row| put_horizontal(silo, row, p_hf(row[0].into())));
+    each_row(silo, answers, |row| put_horizontal(silo, row, p_hf(row[Z].into())));
     let at_edges = silo.edges().into_iter().map(p_hf).collect();
-    put_strakes(silo, list, &Discharge::of(silo).c_h, at_edges);
+    put_strakes(answers, &Discharge::of(silo).c_h, at_edges);
 }
 
 /// The library's list for a silo, of zeros where it is refused.
@@ -192,10 +201,14 @@ fn list_of(silo: &Silo) -> Vec<u32> {
     list
 }
 
+fn answers_of(silo: &Silo) -> Answers<u32> {
+    Answers::read(COLUMNS, silo.depths.len(), &list_of(silo))
+}
+
 /// The library's p_hf at the lower edges, which a sheet of their depths lists.
 fn edge_pressures(silo: &Silo) -> Vec<u32> {
-    let list = list_of(&Silo { depths: silo.edges(), ..silo.clone() });
-    list.chunks(8).take(silo.strakes.len()).map(|row| row[1]).collect()
+    let at_edges = answers_of(&Silo { depths: silo.edges(), ..silo.clone() });
+    at_edges.rows.iter().map(|row| row[P_HF]).collect()
 }
 
 fn is_squat(silo: &Silo) -> bool {
@@ -204,13 +217,13 @@ fn is_squat(silo: &Silo) -> bool {
 
 /// The library's answer, with all that discharge makes of its filling pressures made by other factors.
 fn discharged(sheet: &[u8], list: &mut [u32], other: impl Fn(&Silo) -> Discharge) -> u32 {
-    filled(sheet, list, |silo, list| {
+    filled(sheet, list, |silo, answers| {
         let Discharge { c_h, c_w } = other(silo);
-        each_row(silo, list, |row| {
+        each_row(silo, answers, |row| {
             put_discharge(silo, row, &c_h);
-            row[6] = magnified(row[2], &c_w);
+            row[P_WE] = magnified(row[P_WF], &c_w);
         });
-        put_strakes(silo, list, &c_h, edge_pressures(silo));
+        put_strakes(answers, &c_h, edge_pressures(silo));
     })
 }
 
@@ -232,19 +245,17 @@ fn without_headroom(silo: &Silo) -> Silo {
 }
 
 /// The library's list, with something in it as without headroom, where such a silo is accepted.
-fn partly_level(sheet: &[u8], list: &mut [u32], put: impl Fn(&Silo, &mut [u32], &Silo)) -> u32 {
-    filled(sheet, list, |silo, list| {
+fn partly_level(
+    sheet: &[u8],
+    list: &mut [u32],
+    put: impl Fn(&Silo, &mut Answers<u32>, &Silo),
+) -> u32 {
+    filled(sheet, list, |silo, answers| {
         let level = without_headroom(silo);
         if parse(&level.sheet()).is_ok() {
-            put(silo, list, &level);
+            put(silo, answers, &level);
         }
     })
-}
-
-/// The ten bottom numbers as without headroom.
-fn put_level_bottom(silo: &Silo, list: &mut [u32], level: &Silo) {
-    let bottom = 8 * silo.depths.len();
-    list[bottom..bottom + 10].copy_from_slice(&list_of(level)[bottom..bottom + 10]);
 }
 
 /// C_h with a C0 of 135.
@@ -253,10 +264,10 @@ fn soft(silo: &Silo) -> Fraction {
 }
 
 /// The library's list, of a sheet with a blank C0 changed.
-fn filled_blank(sheet: &[u8], list: &mut [u32], change: fn(&Silo, &mut [u32])) -> u32 {
-    filled(sheet, list, |silo, list| {
+fn filled_blank(sheet: &[u8], list: &mut [u32], change: fn(&Silo, &mut Answers<u32>)) -> u32 {
+    filled(sheet, list, |silo, answers| {
         if silo.factor == 0 {
-            change(silo, list);
+            change(silo, answers);
         }
     })
 }
@@ -270,11 +281,11 @@ fn read_as(sheet: &[u8], list: &mut [u32], factor: u64, read: fn(&Silo) -> bool)
 }
 
 /// P_w one more, where it stays inside its band.
-fn put_greater_line(silo: &Silo, list: &mut [u32]) {
-    each_row(silo, list, |row| {
-        let line = formulas::filling(silo, row[0].into()).line;
+fn put_greater_line(silo: &Silo, answers: &mut Answers<u32>) {
+    each_row(silo, answers, |row| {
+        let line = formulas::filling(silo, row[Z].into()).line;
         let more = line.plus(&Real::exactly(whole(1)));
-        row[4] += u32::from(!more.is_at_most(&whole(row[4].into())));
+        row[P_W] += u32::from(!more.is_at_most(&whole(row[P_W].into())));
     });
 }
 
@@ -337,99 +348,168 @@ fn behind_sixth(sheet: &[u8], list: &mut [u32], other: fn(&[u8]) -> Option<u32>)
 /// Wrong answer lists.
 const LISTS: &[(&str, Loads)] = &[
     ("the deep limit at every depth", |sheet, list| {
-        filled(sheet, list, |silo, list| put_bracket(silo, list, |_| whole(1)))
+        filled(sheet, list, |silo, answers| put_bracket(silo, answers, |_| whole(1)))
     }),
-    ("one fixed table", |sheet, list| filled(sheet, list, |_, list| list.fill(10_000))),
+    ("one fixed table", |sheet, list| {
+        listed(sheet, list, |silo, _| vec![10_000; silo.answers_length()])
+    }),
     ("refuses every sheet", |_, _| 2),
     ("accepts and writes nothing", |sheet, list| loads(sheet, &mut list.to_vec())),
     ("the first row repeated", |sheet, list| {
-        filled(sheet, list, |silo, list| {
-            let first = list[..8].to_vec();
-            each_row(silo, list, |row| row[1..].copy_from_slice(&first[1..]));
+        filled(sheet, list, |silo, answers| {
+            let first = answers.rows[0];
+            each_row(silo, answers, |row| row[P_HF..].copy_from_slice(&first[P_HF..]));
         })
     }),
     ("one friction for all loads", |sheet, list| {
-        filled(sheet, list, |silo, list| {
+        filled(sheet, list, |silo, answers| {
             let weight = &formulas::before_bracket(silo)[2];
-            each_row(silo, list, |row| {
-                let q = formulas::q(silo, HORIZONTAL, row[0].into());
-                row[2] = bracket(&q).times(weight).up() as u32;
-                row[6] = magnified(row[2], &Discharge::of(silo).c_w);
+            each_row(silo, answers, |row| {
+                let q = formulas::q(silo, HORIZONTAL, row[Z].into());
+                row[P_WF] = bracket(&q).times(weight).up() as u32;
+                row[P_WE] = magnified(row[P_WF], &Discharge::of(silo).c_w);
             });
         })
     }),
     ("q rounded down to 2^-33", |sheet, list| {
-        filled(sheet, list, |silo, list| {
-            put_bracket(silo, list, |q| {
+        filled(sheet, list, |silo, answers| {
+            put_bracket(silo, answers, |q| {
                 bracket(&fraction(down(&q.times(&whole(1 << 33))), 1 << 33))
             });
         })
     }),
     ("e^-q too high by 2^-40", |sheet, list| {
-        filled(sheet, list, |silo, list| {
-            put_bracket(silo, list, |q| bracket(q).minus(&fraction(1, 1 << 40)));
+        filled(sheet, list, |silo, answers| {
+            put_bracket(silo, answers, |q| bracket(q).minus(&fraction(1, 1 << 40)));
         })
     }),
     ("P_w added up from rounded discharge loads", |sheet, list| {
-        filled(sheet, list, |silo, list| {
+        filled(sheet, list, |_, answers| {
             let (mut above, mut sum) = (0, 0);
-            for row in list[..8 * silo.depths.len()].chunks_mut(8) {
-                sum += u64::from(row[0] - above) * u64::from(row[6]) / 1_000;
-                (above, row[4]) = (row[0], sum as u32);
+            for row in &mut answers.rows {
+                sum += u64::from(row[Z] - above) * u64::from(row[P_WE]) / 1_000;
+                (above, row[P_W]) = (row[Z], sum as u32);
             }
         })
     }),
     ("α from the vertical", |sheet, list| {
-        filled(sheet, list, |silo, list| {
+        filled(sheet, list, |silo, answers| {
             let turned = Silo { hopper_height: silo.run, run: silo.hopper_height, ..silo.clone() };
             let vertical = formulas::filling(silo, silo.foot()).vertical;
             for k in 0..if silo.run == 0 { 0 } else { 5 } {
                 let share = formulas::hopper_share(&turned, k);
                 let normal = formulas::n3(&turned).plus(&vertical.times(&share)).high.up();
-                list[8 * silo.depths.len() + k as usize] = normal as u32;
+                answers.bottom[k as usize] = normal as u32;
             }
         })
     }),
     ("p_he rounded down", |sheet, list| {
-        filled(sheet, list, |silo, list| {
-            each_row(silo, list, |row| {
-                row[5] = down(&whole(row[1].into()).times(&Discharge::of(silo).c_h)) as u32;
+        filled(sheet, list, |silo, answers| {
+            each_row(silo, answers, |row| {
+                row[P_HE] = down(&whole(row[P_HF].into()).times(&Discharge::of(silo).c_h)) as u32;
             });
         })
     }),
     ("a patch load from e_i alone", |sheet, list| {
-        filled(sheet, list, |silo, list| {
+        filled(sheet, list, |silo, answers| {
             let inner = Silo { e_o: 0, ..silo.clone() };
-            each_row(silo, list, |row| put_horizontal(&inner, row, row[1]));
+            each_row(silo, answers, |row| put_horizontal(&inner, row, row[P_HF]));
         })
     }),
     ("strakes at their upper edges", |sheet, list| {
-        filled(sheet, list, |silo, list| {
-            let at = list.len() - silo.strakes.len();
-            list[at..].rotate_right(1);
-            list[at] = 0;
+        filled(sheet, list, |_, answers| {
+            answers.strakes.rotate_right(1);
+            answers.strakes[0] = 0;
         })
     }),
     ("strakes at edges without the first strake", |sheet, list| {
-        filled(sheet, list, |silo, list| {
+        filled(sheet, list, |silo, answers| {
             let others = Silo { strakes: silo.strakes[1..].to_vec(), ..silo.clone() };
             let at_edges = [vec![0], edge_pressures(&others)].concat();
-            put_strakes(silo, list, &Discharge::of(silo).c_h, at_edges);
+            put_strakes(answers, &Discharge::of(silo).c_h, at_edges);
         })
     }),
     ("p_hf one more at odd depths that are no lower edge", |sheet, list| {
-        filled(sheet, list, |silo, list| {
-            each_row(silo, list, |row| {
-                let raised = row[0] % 2 == 1 && !silo.edges().contains(&row[0].into());
-                put_horizontal(silo, row, row[1] + u32::from(raised));
+        filled(sheet, list, |silo, answers| {
+            each_row(silo, answers, |row| {
+                let raised = row[Z] % 2 == 1 && !silo.edges().contains(&row[Z].into());
+                put_horizontal(silo, row, row[P_HF] + u32::from(raised));
             });
         })
     }),
     ("p_hf one more where two depths are listed", |sheet, list| {
-        filled(sheet, list, |silo, list| {
+        filled(sheet, list, |silo, answers| {
             if silo.depths.len() == 2 {
-                each_row(silo, list, |row| put_horizontal(silo, row, row[1] + 1));
+                each_row(silo, answers, |row| put_horizontal(silo, row, row[P_HF] + 1));
             }
+        })
+    }),
+];
+
+/// The library's numbers, the loads of some lists in another order.
+fn ordered(sheet: &[u8], list: &mut [u32], order: Order, some: fn(&Silo) -> bool) -> u32 {
+    listed(sheet, list, |silo, answers| answers.list(if some(silo) { order } else { COLUMNS }))
+}
+
+/// The library's list, the columns of some loads a depth further down below the surface, cyclically: the last number comes first.
+fn shifted(sheet: &[u8], list: &mut [u32], loads: &[usize]) -> u32 {
+    filled(sheet, list, |silo, answers| {
+        let above = silo.depths.iter().filter(|z| silo.load_depth(**z) == 0).count();
+        let mut others = answers.rows.clone();
+        let below = &mut others[above..];
+        below.rotate_right(below.len().min(1));
+        for (row, other) in answers.rows.iter_mut().zip(others) {
+            loads.iter().for_each(|load| row[*load] = other[*load]);
+        }
+    })
+}
+
+/// The library's list, two columns exchanged.
+fn exchanged(sheet: &[u8], list: &mut [u32], one: usize, other: usize) -> u32 {
+    filled(sheet, list, |_, answers| answers.rows.iter_mut().for_each(|row| row.swap(one, other)))
+}
+
+/// Lists in another order. A list of one depth is the same in rows and in columns.
+const ORDERS: &[(&str, Loads)] = &[
+    ("the row order kept", |sheet, list| ordered(sheet, list, ROWS, |_| true)),
+    ("the row order kept for two depths", |sheet, list| {
+        ordered(sheet, list, ROWS, |silo| silo.depths.len() == 2)
+    }),
+    ("the row order kept for 200 depths", |sheet, list| {
+        ordered(sheet, list, ROWS, |silo| silo.depths.len() == 200)
+    }),
+    ("the row order kept under a headroom", |sheet, list| {
+        ordered(sheet, list, ROWS, |silo| silo.g() > 0)
+    }),
+    ("columns from the foot up", |sheet, list| {
+        ordered(sheet, list, |depths, load, i| COLUMNS(depths, load, depths - 1 - i), |_| true)
+    }),
+    ("p_hf and p_vf exchanged", |sheet, list| exchanged(sheet, list, P_HF, P_VF)),
+    ("p_wf and p_we exchanged", |sheet, list| exchanged(sheet, list, P_WF, P_WE)),
+    ("p_hf and p_he exchanged", |sheet, list| exchanged(sheet, list, P_HF, P_HE)),
+    ("p_we a depth further down", |sheet, list| shifted(sheet, list, &[P_WE])),
+    ("P_w a depth further down", |sheet, list| shifted(sheet, list, &[P_W])),
+    ("p_hf a depth further down, with p_he and p_p", |sheet, list| {
+        shifted(sheet, list, &[P_HF, P_HE, P_P])
+    }),
+    ("P_n and P_t in turns", |sheet, list| {
+        filled(sheet, list, |_, answers| {
+            let (normal, traction) = answers.bottom.split_at(5);
+            answers.bottom = normal.iter().zip(traction).flat_map(|(n, t)| [*n, *t]).collect();
+        })
+    }),
+    ("strakes before the bottom", |sheet, list| {
+        listed(sheet, list, |_, answers| {
+            let mut list = answers.list(COLUMNS);
+            list[LOADS.len() * answers.rows.len()..].rotate_left(BOTTOM);
+            list
+        })
+    }),
+    ("the bottom before the columns", |sheet, list| {
+        listed(sheet, list, |_, answers| {
+            let mut list = answers.list(COLUMNS);
+            list[..LOADS.len() * answers.rows.len() + BOTTOM].rotate_right(BOTTOM);
+            list
         })
     }),
 ];
@@ -488,25 +568,25 @@ const FACTORS: &[(&str, Loads)] = &[
         })
     }),
     ("strakes of squat bins by C0", |sheet, list| {
-        filled(sheet, list, |silo, list| {
-            put_strakes(silo, list, &c0(silo), edge_pressures(silo));
+        filled(sheet, list, |silo, answers| {
+            put_strakes(answers, &c0(silo), edge_pressures(silo));
         })
     }),
     ("the patch reduced by 5.33 and 5.36", |sheet, list| {
-        filled(sheet, list, |silo, list| {
+        filled(sheet, list, |silo, answers| {
             if is_squat(silo) {
                 let share = slenderness(silo).minus(&whole(1)).times(&whole(2));
                 let patch = formulas::patch(silo).times(&share);
-                each_row(silo, list, |row| row[7] = magnified(row[5], &patch));
+                each_row(silo, answers, |row| row[P_P] = magnified(row[P_HE], &patch));
             }
         })
     }),
     ("p_hf one more in squat bins", |sheet, list| {
-        filled(sheet, list, |silo, list| {
+        filled(sheet, list, |silo, answers| {
             if is_squat(silo) {
-                each_row(silo, list, |row| put_horizontal(silo, row, row[1] + 1));
+                each_row(silo, answers, |row| put_horizontal(silo, row, row[P_HF] + 1));
                 let at_edges = edge_pressures(silo).iter().map(|p_hf| p_hf + 1).collect();
-                put_strakes(silo, list, &Discharge::of(silo).c_h, at_edges);
+                put_strakes(answers, &Discharge::of(silo).c_h, at_edges);
             }
         })
     }),
@@ -524,9 +604,9 @@ const HEADROOMS: &[(&str, Loads)] = &[
         instead(sheet, list, |silo| Silo { headroom: silo.headroom.map(|g| g.max(1) - 1), ..silo })
     }),
     ("z - g in place of z in the list", |sheet, list| {
-        filled(sheet, list, |silo, list| {
-            for row in list[..8 * silo.depths.len()].chunks_mut(8) {
-                row[0] = silo.load_depth(row[0].into()) as u32;
+        filled(sheet, list, |silo, answers| {
+            for row in &mut answers.rows {
+                row[Z] = silo.load_depth(row[Z].into()) as u32;
             }
         })
     }),
@@ -536,53 +616,53 @@ const HEADROOMS: &[(&str, Loads)] = &[
         })
     }),
     ("a floor at V", |sheet, list| {
-        partly_level(sheet, list, |silo, list, level| {
+        partly_level(sheet, list, |silo, answers, level| {
             if silo.run == 0 {
-                put_level_bottom(silo, list, level);
+                answers.bottom = answers_of(level).bottom;
             }
         })
     }),
     ("a hopper at V", |sheet, list| {
-        partly_level(sheet, list, |silo, list, level| {
+        partly_level(sheet, list, |silo, answers, level| {
             if silo.run > 0 {
-                put_level_bottom(silo, list, level);
+                answers.bottom = answers_of(level).bottom;
             }
         })
     }),
     ("strakes at their edges without headroom", |sheet, list| {
-        partly_level(sheet, list, |silo, list, level| {
-            put_strakes(silo, list, &Discharge::of(silo).c_h, edge_pressures(level));
+        partly_level(sheet, list, |silo, answers, level| {
+            put_strakes(answers, &Discharge::of(silo).c_h, edge_pressures(level));
         })
     }),
     ("P_w without headroom", |sheet, list| {
-        partly_level(sheet, list, |silo, list, level| {
-            let level = list_of(level);
-            (0..silo.depths.len()).for_each(|i| list[8 * i + 4] = level[8 * i + 4]);
+        partly_level(sheet, list, |_, answers, level| {
+            let level = answers_of(level).rows;
+            answers.rows.iter_mut().zip(level).for_each(|(row, level)| row[P_W] = level[P_W]);
         })
     }),
     ("P_w by z less z0 times the bracket of its load depth", |sheet, list| {
-        filled(sheet, list, |silo, list| {
+        filled(sheet, list, |silo, answers| {
             let weight = formulas::before_bracket(silo)[2].over(&whole(1_000));
             let above = magnified(silo.g() as u32, &weight);
-            each_row(silo, list, |row| row[4] = row[4].saturating_add(above));
+            each_row(silo, answers, |row| row[P_W] = row[P_W].saturating_add(above));
         })
     }),
     ("P_w one more under a headroom, inside its band", |sheet, list| {
-        filled(sheet, list, |silo, list| {
+        filled(sheet, list, |silo, answers| {
             if silo.g() > 0 {
-                put_greater_line(silo, list);
+                put_greater_line(silo, answers);
             }
         })
     }),
     ("load depths as |z - g|", |sheet, list| {
-        filled(sheet, list, |silo, list| {
-            let row_at = |z| list_of(&Silo { depths: vec![z], ..silo.clone() });
-            for row in list[..8 * silo.depths.len()].chunks_mut(8) {
-                let other = row_at(mirrored(silo, row[0].into()));
-                row[1..].copy_from_slice(&other[1..8]);
+        filled(sheet, list, |silo, answers| {
+            let row_at = |z| answers_of(&Silo { depths: vec![z], ..silo.clone() }).rows[0];
+            for row in &mut answers.rows {
+                let other = row_at(mirrored(silo, row[Z].into()));
+                row[P_HF..].copy_from_slice(&other[P_HF..]);
             }
-            let at_edges = silo.edges().into_iter().map(|z| row_at(mirrored(silo, z))[1]).collect();
-            put_strakes(silo, list, &Discharge::of(silo).c_h, at_edges);
+            let at_edges = silo.edges().into_iter().map(|z| row_at(mirrored(silo, z))[P_HF]);
+            put_strakes(answers, &Discharge::of(silo).c_h, at_edges.collect());
         })
     }),
 ];
@@ -623,19 +703,19 @@ const BLANKS: &[(&str, Loads)] = &[
         })
     }),
     ("p_we by 1.55 for a blank C0", |sheet, list| {
-        filled_blank(sheet, list, |silo, list| {
-            each_row(silo, list, |row| row[6] = magnified(row[2], &c0(silo)));
+        filled_blank(sheet, list, |silo, answers| {
+            each_row(silo, answers, |row| row[P_WE] = magnified(row[P_WF], &c0(silo)));
         })
     }),
     ("strakes by 135 for a blank C0", |sheet, list| {
-        filled_blank(sheet, list, |silo, list| {
-            put_strakes(silo, list, &soft(silo), edge_pressures(silo));
+        filled_blank(sheet, list, |silo, answers| {
+            put_strakes(answers, &soft(silo), edge_pressures(silo));
         })
     }),
     ("the patch over p_he by 135 for a blank C0", |sheet, list| {
-        filled_blank(sheet, list, |silo, list| {
-            each_row(silo, list, |row| {
-                row[7] = magnified(magnified(row[1], &soft(silo)), &formulas::patch(silo));
+        filled_blank(sheet, list, |silo, answers| {
+            each_row(silo, answers, |row| {
+                row[P_P] = magnified(magnified(row[P_HF], &soft(silo)), &formulas::patch(silo));
             });
         })
     }),
@@ -900,7 +980,7 @@ fn is_found(name: &str, outcome: Outcome) {
 
 #[test]
 fn broken_load_calls_are_found() {
-    for (name, loads) in [LISTS, FACTORS, HEADROOMS, BLANKS, REFUSALS].concat() {
+    for (name, loads) in [LISTS, ORDERS, FACTORS, HEADROOMS, BLANKS, REFUSALS].concat() {
         is_found(name, compared(&Broken { loads, ..WHOLE }));
     }
 }

@@ -8,6 +8,7 @@
 //! of 4,000·f mm, f being the product of a row's two factors (4,140, 3,240 and 5,290 mm), z0 is 5 m for that row; so the library's
 //! pressure at 5,000·h/b mm has to lie from P·(K - 0.00005) to P·(K + 0.00005) + 2.
 
+use reference::answers::{P_HF, P_VF, P_WF};
 use reference::compare::Comparison;
 use reference::exponential::exponential;
 use reference::formulas::{self, Row, FRICTION, HORIZONTAL, VERTICAL};
@@ -49,9 +50,10 @@ fn the_exact_bracket_is_the_printed_one() {
 #[test]
 fn the_pressures_follow_the_printed_brackets() {
     let mut comparison = Comparison::with(&Linked);
-    // Row of factors, diameter, the row's place in `before_bracket`, and its column in the answer list.
-    let rows = [(HORIZONTAL, 4_140, 0, 1), (VERTICAL, 3_240, 1, 3), (FRICTION, 5_290, 2, 2)];
-    for (row, diameter, place, column) in rows {
+    // Row of factors, diameter, the row's place in `before_bracket`, and its load.
+    let rows =
+        [(HORIZONTAL, 4_140, 0, P_HF), (VERTICAL, 3_240, 1, P_VF), (FRICTION, 5_290, 2, P_WF)];
+    for (row, diameter, place, load) in rows {
         let silo = Silo {
             section: vec![diameter],
             strakes: vec![2_500; 10],
@@ -59,8 +61,8 @@ fn the_pressures_follow_the_printed_brackets() {
             ..sample()
         };
         comparison.accepted(&silo).unwrap();
-        let list = comparison.answers(&silo).unwrap();
-        let pressures: Vec<u64> = list.iter().skip(column).step_by(8).copied().collect();
+        let answers = comparison.answers(&silo).unwrap();
+        let pressures: Vec<u64> = answers.rows.iter().map(|at_depth| at_depth[load]).collect();
         follow(&silo, row, &formulas::before_bracket(&silo)[place], &pressures);
     }
     println!("{}", comparison.tally);

@@ -1,6 +1,7 @@
 //! The page of C-15 written out for document 01's sample, what the two calls answer to it, and to a long bin of C-17, and buffers far longer
 //! than a page.
 
+use reference::answers::{Answers, ROWS};
 use reference::compare::Comparison;
 use reference::inputs::sample;
 use reference::linked::Linked;
@@ -30,9 +31,9 @@ const PAGE: &str = "        z      phf      pwf      pvf       PW      phe      
 #[test]
 fn as_written() {
     let silo = sample();
-    let list = page::numbers(PAGE.as_bytes(), 2).expect("numbers in every field");
-    assert_eq!(list.len(), silo.answers_length());
-    assert_eq!(page::text(&silo, &list), PAGE);
+    let numbers = page::numbers(PAGE.as_bytes(), 2).expect("numbers in every field");
+    assert_eq!(numbers.len(), silo.answers_length());
+    assert_eq!(page::text(&Answers::read(ROWS, 2, &numbers)), PAGE);
     assert_eq!(page::length(&silo), PAGE.len());
     assert_eq!(page::printed(Ok(PAGE.into())), PAGE);
     assert_eq!(page::printed(Err(17)), "REFUSED 17\n");

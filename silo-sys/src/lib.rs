@@ -1,12 +1,12 @@
-//! The proved library's calls as `include/silo.h` declares them, which says what a sheet, a list and a refusal are. Nothing checks
-//! these declarations against the library.
+//! The proved library's calls as version 2 of `include/silo.h` declares them, which says what a sheet, a list and a refusal are. Nothing
+//! checks these declarations against the library.
 //!
 //! # Safety
 //! Each pointer is to as many elements as the length after it says, and is not null even where that is 0; memory that is written
 //! overlaps no other.
 
 extern "C" {
-    /// Fills the answer list for a sheet. Answers 0; or a refusal, 1 to 12, 14, 17 or 20, and the list is as it was.
+    /// Fills the answer list for a sheet, in columns. Answers 0; or a refusal, 1 to 12, 14, 17 or 20, and the list is as it was.
     pub fn silo_loads(
         sheet: *const u8,
         sheet_len: usize,

@@ -6,6 +6,7 @@ pub mod Places
 pub mod SameRecords
 pub mod Demand
 pub mod Order
+pub mod Columns
 pub mod Digits
 pub mod Edges
 pub mod Whole

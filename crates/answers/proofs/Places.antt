@@ -1,4 +1,4 @@
--- Where each number stands in the answer list: eight a depth, ten for the bottom, one a strake.
+-- Where each number stands in the answer list: eight of each depth, ten of the bottom, one of each strake.
 -- Assumes nothing.
 use Prim.Native.Nat.{ℕ, zero, suc, _+_, _-_, _*_, _<_}
 use mathlib.Core.Path.{_≡_, refl, ap, sym, _∙_, subst}
@@ -37,6 +37,16 @@ by-eight E a b c d e f g h (suc (suc (suc (suc (suc zero))))) l = f
 by-eight E a b c d e f g h (suc (suc (suc (suc (suc (suc zero)))))) l = g
 by-eight E a b c d e f g h (suc (suc (suc (suc (suc (suc (suc zero))))))) l = h
 by-eight E a b c d e f g h (suc (suc (suc (suc (suc (suc (suc (suc r)))))))) l = absurd (omega arith)
+
+pub rank-most : (l : Load) → rank l < 8
+rank-most listed-depth = omega arith
+rank-most p-hf = omega arith
+rank-most p-wf = omega arith
+rank-most p-vf = omega arith
+rank-most P-w = omega arith
+rank-most p-he = omega arith
+rank-most p-we = omega arith
+rank-most p-p = omega arith
 
 -- each number of a depth in its order
 numbered : (c : Silo) (x r : ℕ) → r < 8 → getD (depth-numbers c x) r 0 ≡ load-number computed c (getD eight r listed-depth) x
@@ -79,7 +89,7 @@ module _ (s : List ℕ) where
   bottom-at : (k : ℕ) → k < 10 → bottom-in s (answers s) k ≡ getD (bottom-numbers computed c) k 0
   unfolding answers
   bottom-at k h =
-      let at : 8 * depth-count s + k ≡ length (depths-part s) + k = omega (arith, length-depths-part) in
+      let at : bottom-place (depth-count s) k ≡ length (depths-part s) + k = omega (arith, length-depths-part) in
       ap (λ (n : ℕ). getD (answers s) n 0) at
       ∙ getD-append-add (depths-part s) _ k 0
       ∙ List·getD-append (bottom-part s) _ 0 k (omega (arith, length-bottom-part))
@@ -88,7 +98,7 @@ module _ (s : List ℕ) where
   strake-at : (k : ℕ) → k < strake-count s → strake-in s (answers s) k ≡ load-number computed c p-he (edge-of s (suc k))
   unfolding answers edge-of
   strake-at k h =
-      let at : 8 * depth-count s + 10 + k ≡ length (depths-part s) + (length (bottom-part s) + k) =
+      let at : strake-place (depth-count s) k ≡ length (depths-part s) + (length (bottom-part s) + k) =
       omega (arith, length-depths-part, length-bottom-part) in
       ap (λ (n : ℕ). getD (answers s) n 0) at
       ∙ getD-append-add (depths-part s) _ (length (bottom-part s) + k) 0

@@ -8,7 +8,7 @@ use native.Mathlib.Omega.{arith}
 use lib.ListN.{length, getD, set, drop, length-set, List·getD-append}
 use lib.Seq.{sets, sets-eq, length-sets, getD-set-same, getD-set-other, getD-append-add, getD-drop, ext-getD}
 use Rattle.answers.specs.Place.{load-place}
-use Rattle.answers.specs.program.Fill.{Placed, in-places}
+use Rattle.answers.specs.program.Place.{Placed, in-places}
 use Rattle.answers.proofs.PlaceLaws.{load-under, load-apart, load-every, placed-length, placed-at}
 
 -- ---- the eight of the depth i
@@ -29,7 +29,7 @@ module _ (n i : ℕ) (numbers lent : List ℕ) where
       at : (r : ℕ) → r < m + 1 → Dec (r < m) → getD (set list (load-place n m i) (getD numbers m 0)) (load-place n r i) 0 ≡ getD numbers r 0
       at r g (yes u) =
           getD-set-other list (load-place n m i) (load-place n r i) (getD numbers m 0) 0
-          (λ e. omega (arith, u, load-apart n r i m i (omega arith) h l h e .0))
+          (λ e. omega (arith, u, load-apart n r i m i h h e .0))
           ∙ p .there r u
       at r g (no u) =
           let e : r ≡ m = omega arith in
@@ -56,7 +56,7 @@ module _ (n : ℕ) (number : ℕ → ℕ → ℕ) (lent : List ℕ) where
     where
       at : (r i : ℕ) → r < 8 → i < m + 1 → Dec (i < m) → getD list' (load-place n r i) 0 ≡ number r i
       at r i l g (yes u) =
-          q .elsewhere (load-place n r i) (λ t k x. omega (arith, u, load-apart n r i t m l (omega arith) k h x .1)) ∙ p .there r i l u
+          q .elsewhere (load-place n r i) (λ t k x. omega (arith, u, load-apart n r i t m (omega arith) h x .1)) ∙ p .there r i l u
       at r i l g (no u) =
           let x : i ≡ m = omega arith in
           rw x (q .there r l ∙ e r l)

@@ -10,7 +10,7 @@ use lib.ListN.{length, getD, length-append, List·getD-append}
 use lib.Seq.{sets, getD-append-add}
 use Rattle.records.proofs.Stores.{sets-append}
 use Rattle.answers.specs.Each.{each}
-use Rattle.answers.specs.program.Fill.{grid}
+use Rattle.answers.specs.program.Place.{grid}
 
 -- a run of stores of a part for each index: its next, and its end
 module _ (F : ℕ → List ℕ) where

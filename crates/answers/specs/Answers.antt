@@ -39,7 +39,7 @@ bottom-in s list k = getD list (bottom-place (depth-count s) k) 0
 abbrev pub strake-in : List ℕ → List ℕ → ℕ → ℕ
 strake-in s list k = getD list (strake-place (depth-count s) k) 0
 
--- the list has the length due, and each number in its place, those of the depths by an order of theirs
+-- the list has the length due, and each number in its place, those of the depths by the order `place`
 pub record FilledBy (place : ℕ → ℕ → ℕ → ℕ) (f : FillingNumbers) (s list : List ℕ) : Type 0 where
   pub sized : length list ≡ length-due s
   pub at-depths : (r i : ℕ) → r < 8 → i < depth-count s

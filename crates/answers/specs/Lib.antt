@@ -4,6 +4,7 @@ pub mod Length
 pub mod Answers
 pub mod Claim
 pub mod Order
+pub mod Columns
 pub mod Promise
 pub mod Factor
 pub mod program

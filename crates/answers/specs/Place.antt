@@ -1,9 +1,9 @@
--- Where a number stands in the answer list, which nothing else knows. Document 01, "Answer list".
+-- Where a number stands in the answer list; beside this only `in-places` (program/Place.antt) knows it. Document 01, "Answer list"; document 02, C-18.
 use Prim.Native.Nat.{ℕ, _+_, _*_}
 
--- number r of the eight of the depth i, of n that are listed
+-- number r of the eight of the depth i, of n that are listed: all z first, then all p_hf, and so on
 unfoldable pub load-place : ℕ → ℕ → ℕ → ℕ
-load-place n r i = 8 * i + r
+load-place n r i = r * n + i
 
 -- number k of the bottom, k = 0 to 9
 abbrev pub bottom-place : ℕ → ℕ → ℕ

@@ -18,7 +18,7 @@ use Rattle.loads.specs.declared.Silo.{Silo}
 pub data Load : Type 0 where
   listed-depth p-hf p-wf p-vf P-w p-he p-we p-p : Load
 
--- the order of the eight in answer list and page
+-- the order of the columns in answer list and page
 abbrev pub eight : List Load
 eight = listed-depth ∷ p-hf ∷ p-wf ∷ p-vf ∷ P-w ∷ p-he ∷ p-we ∷ p-p ∷ []
 

@@ -23,6 +23,8 @@ use Rattle.sheet.specs.Refusal.{refusal-of}
 use Rattle.sheet.proofs.Chains.{sheet-first, sheet-passed, call-never-13}
 use Rattle.answers.specs.declared.length.Length.the-variants.{Due, Refused}
 use Rattle.answers.specs.Place.{load-place}
+use Rattle.answers.specs.Answers.{FilledBy}
+use Rattle.answers.specs.Columns.{row-place}
 use Rattle.answers.specs.program.Fill.{answers}
 use Rattle.answers.proofs.LengthLaws.{beside-refused, beside-due}
 use Rattle.answers.proofs.Places.{answers-filled}
@@ -64,6 +66,10 @@ module _ (f : List ℕ → FillingNumbers) (t s lent left : List ℕ) (r : ℕ) 
   pub measured-refused : (n : ℕ) → page-length s ≡ Due n → n ≤ length lent → (r ≡ 0 → ⊥) → r ≡ 20
   unfolding page-rules first-unmet
   measured-refused n e room = beside-due s _ (page-due s) (p .1 .answer) n e (λ o. simp (le-leb (page-due s) (length lent) (omega (arith, o, room))))
+
+  -- what it leaves is, byte for byte, what it left while the list was in rows (document 02, C-18)
+  pub page-unmoved : r ≡ 0 → (rows : List ℕ) → FilledBy row-place (f t) s rows → left ≡ page-text row-place rows (depth-count s) ++ drop (page-due s) lent
+  page-unmoved e rows b = p .1 .done e .text ∙ ap (λ (x : List ℕ). x ++ drop (page-due s) lent) (sym (page-named row-place (f t) s rows b))
 
 -- an accepted sheet's page has the length told, whatever the filling numbers that meet demand 3
 pub page-length-is : (f : FillingNumbers) (s list : List ℕ) → refusal-of s ≡ 0 → Claim f s list → length (page f s) ≡ page-due s

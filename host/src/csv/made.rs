@@ -66,7 +66,7 @@ fn by_hand(report: &Report, rows: Rows) -> String {
             page += &rows.exact(name, pressure(Fraction::whole(pascals)), DIGITS, unit);
         }
     }
-    let foot = rows.dialect.number(&report.units.show(report.foot()[P_VF]));
+    let foot = rows.dialect.number(&report.units.show(report.foot(P_VF)));
     page + &rows.fact("p_vf(V)", foot, unit)
 }
 

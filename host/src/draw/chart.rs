@@ -5,39 +5,34 @@ use super::shown::{grouped, round_pressure};
 use super::svg::Svg;
 use crate::basis::{Made, WALL};
 use crate::description::Description;
-use crate::library::Loads;
+use crate::library::{Loads, P_HE, P_HF, P_P, P_WE, P_WF, Z};
 use crate::report::Report;
 
-/// A pressure's place in a depth's row, its name, and the classes of its line.
+/// A pressure's column, its name, and the classes of its line.
 pub struct Curve {
-    pub place: usize,
+    pub load: usize,
     pub name: &'static str,
     words: &'static str,
     class: &'static str,
 }
 
-const fn curve(
-    place: usize,
-    name: &'static str,
-    words: &'static str,
-    class: &'static str,
-) -> Curve {
-    Curve { place, name, words, class }
+const fn curve(load: usize, name: &'static str, words: &'static str, class: &'static str) -> Curve {
+    Curve { load, name, words, class }
 }
 
 impl Curve {
     /// What it is made with.
     pub fn made(self) -> Made {
-        WALL[self.place - 1]
+        WALL[self.load - 1]
     }
 }
 
 pub const CURVES: [Curve; 5] = [
-    curve(1, "p_hf", "horizontal, filling", "horizontal filling"),
-    curve(5, "p_he", "horizontal, discharge, without p_p", "horizontal"),
-    curve(2, "p_wf", "wall friction, filling", "friction filling"),
-    curve(6, "p_we", "wall friction, discharge", "friction"),
-    curve(7, "p_p", "patch load, discharge", "patch"),
+    curve(P_HF, "p_hf", "horizontal, filling", "horizontal filling"),
+    curve(P_HE, "p_he", "horizontal, discharge, without p_p", "horizontal"),
+    curve(P_WF, "p_wf", "wall friction, filling", "friction filling"),
+    curve(P_WE, "p_we", "wall friction, discharge", "friction"),
+    curve(P_P, "p_p", "patch load, discharge", "patch"),
 ];
 
 /// Numbers below each other stand at least so far apart.
@@ -49,8 +44,8 @@ const WORDS: f64 = 16.0;
 
 /// Of all pressures in the chart, Pa; at least 1.
 fn greatest(curves: &Loads) -> u32 {
-    let pressures = curves.rows().flat_map(|row| CURVES.each_ref().map(|curve| row[curve.place]));
-    pressures.max().unwrap_or(1).max(1)
+    let pressures = CURVES.iter().flat_map(|curve| curves.column(curve.load));
+    pressures.copied().max().unwrap_or(1).max(1)
 }
 
 pub fn draw(svg: &mut Svg, report: &Report, layout: &Layout, curves: &Loads) {
@@ -67,16 +62,17 @@ pub fn draw(svg: &mut Svg, report: &Report, layout: &Layout, curves: &Loads) {
     if !layout.is_aligned() {
         own_depths(svg, report.silo, layout);
     }
-    let point = |row: &[u32], curve: &Curve| {
-        let pressure = f64::from(row[curve.place]);
-        (CHART.0 + pressure * scale, layout.chart_y(f64::from(row[0])))
+    let depths = curves.column(Z);
+    let point = |(pressure, z): (&u32, &u32)| {
+        (CHART.0 + f64::from(*pressure) * scale, layout.chart_y(f64::from(*z)))
     };
     let is_edge = |z: u32| report.silo.edges().any(|(_, edge)| edge == u64::from(z));
     for curve in &CURVES {
-        let points: Vec<(f64, f64)> = curves.rows().map(|row| point(row, curve)).collect();
+        let points: Vec<(f64, f64)> =
+            curves.column(curve.load).iter().zip(depths).map(point).collect();
         svg.polyline(curve.class, &points);
-        for row in curves.rows().filter(|row| is_edge(row[0])) {
-            svg.dot(curve.class, point(row, curve));
+        for (point, _) in points.iter().zip(depths).filter(|(_, z)| is_edge(**z)) {
+            svg.dot(curve.class, *point);
         }
     }
     legend(svg, layout, curves);
@@ -138,7 +134,7 @@ fn own_depths(svg: &mut Svg, silo: &Description, layout: &Layout) {
 fn covering(i: usize, curves: &Loads) -> Option<&'static Curve> {
     let curve = &CURVES[i];
     let next = CURVES.get(i + 1).filter(|_| curve.class.ends_with("filling"))?;
-    curves.rows().all(|row| row[curve.place] == row[next.place]).then_some(next)
+    (curves.column(curve.load) == curves.column(next.load)).then_some(next)
 }
 
 /// Above the chart.

@@ -8,7 +8,7 @@ use super::shown::{grouped, length, pressure};
 use super::svg::{Point, Svg};
 use crate::basis;
 use crate::description::Description;
-use crate::library::{Loads, P_HE, P_P, P_VF, P_W};
+use crate::library::{Loads, P_HE, P_P, P_VF, P_W, ROW};
 use crate::report::Report;
 
 /// The columns before those of pressures.
@@ -54,8 +54,8 @@ fn names() -> impl Iterator<Item = &'static str> {
 }
 
 /// Of a depth's row: the chart's five, and p_he + p_p, the largest at any place of that depth.
-fn pressures(row: &[u32]) -> impl Iterator<Item = u32> + '_ {
-    CURVES.iter().map(|curve| row[curve.place]).chain([row[P_HE] + row[P_P]])
+fn pressures(row: [u32; ROW]) -> impl Iterator<Item = u32> {
+    CURVES.iter().map(move |curve| row[curve.load]).chain([row[P_HE] + row[P_P]])
 }
 
 /// Words, names of the columns, what each load is made with, and units.
@@ -118,10 +118,10 @@ fn last_row(layout: &Layout) -> f64 {
 
 /// p_vf and P_w at the wall's foot, each with its equation, then with its Ks and mu.
 fn at_foot(report: &Report) -> [[String; 2]; 2] {
-    let (foot, units) = (report.foot(), report.units);
-    let load = |place: usize, unit: &str| {
-        let made = &basis::WALL[place - 1];
-        let number = pressure(units, foot[place]);
+    let units = report.units;
+    let load = |load: usize, unit: &str| {
+        let made = &basis::WALL[load - 1];
+        let number = pressure(units, report.foot(load));
         let said = format!("{} at V {number} {unit} ({})", made.load, made.equation);
         [said, made::with(made, &report.silo.product)]
     };

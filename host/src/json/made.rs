@@ -72,7 +72,7 @@ pub fn by_hand(report: &Report) -> String {
         ("R_mm", exact(basis.radius)),
         ("beta", exact(basis.beta)),
         ("s_mm", tenths(report.silo.section.patch_side())),
-        ("p_vf_at_foot", report.units.show(report.foot()[P_VF])),
+        ("p_vf_at_foot", report.units.show(report.foot(P_VF))),
     ];
     if let Some(hopper) = basis.hopper {
         fields.extend([

@@ -117,7 +117,7 @@ fn formulas(report: &Report, basis: &Basis) -> String {
         None => vec![made("floor")],
         Some(hopper) => hopper_formulas(report, hopper, made),
     });
-    let foot = report.units.show(report.foot()[P_VF]);
+    let foot = report.units.show(report.foot(P_VF));
     lines.push(format!("p_vf(V) = {foot} {}", report.units.pressure()));
     lines.iter().map(|line| facts(line)).collect()
 }

@@ -71,7 +71,7 @@ impl Run<'_> {
     fn due(&mut self, sheet: &[u8]) -> Result<String, Difference> {
         self.comparison.sheet(sheet, &[0])?;
         let page = match parse(sheet) {
-            Ok(silo) => Ok(page::text(&silo, &self.comparison.answers(&silo)?)),
+            Ok(silo) => Ok(page::text(&self.comparison.answers(&silo)?)),
             Err(refusal) => Err(refusal),
         };
         Ok(page::printed(page))

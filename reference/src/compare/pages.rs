@@ -1,6 +1,7 @@
 //! The comparison of the two page calls.
 
 use super::{beside_length, Comparison};
+use crate::answers::{Answers, COLUMNS, ROWS};
 use crate::calls::{expect, Difference, Outcome, UNTOUCHED_BYTE};
 use crate::page;
 use crate::sheet::{records, told, Silo};
@@ -28,8 +29,8 @@ fn digits(number: u64) -> usize {
     number.checked_ilog10().map_or(1, |log| log as usize + 1)
 }
 
-/// An accepted silo with the library's list, or a refusal.
-type Listed<'a> = Result<(&'a Silo, &'a [u64]), u64>;
+/// An accepted silo with the library's answers, or a refusal.
+type Listed<'a> = Result<(&'a Silo, &'a Answers<u64>), u64>;
 
 fn silo(listed: Listed<'_>) -> Result<&Silo, u64> {
     listed.map(|(silo, _)| silo)
@@ -56,7 +57,7 @@ impl Comparison<'_> {
         expect(length == due, bytes, || format!("page_length {length}, {due} due"))?;
         listed.map_or_else(|refusal| beside_length(bytes, refusal, length), |_| Ok(()))?;
         let due = records(bytes).map_or(SHORTEST, |silo| page::length(&silo));
-        let text = listed.map(|(silo, list)| page::text(silo, list)).unwrap_or_default();
+        let text = listed.map(|(_, answers)| page::text(answers)).unwrap_or_default();
         let fits = listed.is_err() || text.len() == due;
         expect(fits, bytes, || "a number of the list has no room in a field".into())?;
         for buffer in buffers {
@@ -64,13 +65,13 @@ impl Comparison<'_> {
             self.tally.pages[listed.err().unwrap_or(0) as usize][buffer] += 1;
             self.tally.refused[18] += u64::from(answer == 18);
         }
-        let numbers = listed.map_or(&[][..], |(_, list)| list);
+        let numbers = listed.map(|(_, answers)| answers.list(COLUMNS)).unwrap_or_default();
         numbers.iter().for_each(|number| self.tally.digits[digits(*number)] += 1);
         Ok(())
     }
 
-    /// The page call with a buffer of that length; tells its answer. The page that it writes, read by its places alone, has the numbers of
-    /// the list, and is the text due; all else of the buffer is as it was.
+    /// The page call with a buffer of that length; tells its answer. The page that it writes, read by its places alone, has line by line the
+    /// numbers of the list as it was before C-18, and is the text due; all else of the buffer is as it was.
     fn page(
         &self,
         bytes: &[u8],
@@ -86,10 +87,13 @@ impl Comparison<'_> {
         let (page, rest) = buffer.split_at(if due == 0 { text.len() } else { 0 });
         let same = rest.iter().all(|byte| *byte == UNTOUCHED_BYTE);
         expect(same, bytes, || format!("answer {answer} changed bytes of the buffer of {length}"))?;
-        if let (0, Ok((silo, list))) = (due, listed) {
+        if let (0, Ok((silo, answers))) = (due, listed) {
             let numbers = page::numbers(page, silo.depths.len());
-            expect(numbers.is_some_and(|numbers| numbers == list), bytes, || {
-                format!("the page does not read as the list; {}", unlike(page, text))
+            expect(numbers.is_some_and(|numbers| numbers == answers.list(ROWS)), bytes, || {
+                format!(
+                    "the page does not read as the list, depth by depth; {}",
+                    unlike(page, text)
+                )
             })?;
             expect(page == text.as_bytes(), bytes, || unlike(page, text))?;
         }
@@ -101,11 +105,11 @@ impl Comparison<'_> {
         if self.loads_alone {
             return Ok(());
         }
-        let (bytes, list) = (silo.sheet(), self.answers(silo)?);
-        let text = page::text(silo, &list);
-        lengths
-            .iter()
-            .try_for_each(|length| self.page(&bytes, Ok((silo, &list)), &text, *length).map(|_| ()))
+        let (bytes, answers) = (silo.sheet(), self.answers(silo)?);
+        let text = page::text(&answers);
+        lengths.iter().try_for_each(|length| {
+            self.page(&bytes, Ok((silo, &answers)), &text, *length).map(|_| ())
+        })
     }
 
     /// Two sheets that mean the same: both page calls answer alike, and leave alike buffers.

@@ -1,6 +1,7 @@
 //! The comparison of the shell patch call.
 
-use super::{band, expect_of, rows, Comparison};
+use super::{band, expect_of, Comparison};
+use crate::answers::P_P;
 use crate::calls::{expect, Difference, Outcome, UNTOUCHED_SIGNED};
 use crate::cosine::COSINES;
 use crate::formulas::{self, Discharge};
@@ -101,11 +102,11 @@ impl Comparison<'_> {
         let place = silo.depths.iter().position(|z| *z == depth);
         let depths = place.map_or_else(|| vec![depth], |_| silo.depths.clone());
         let listing = Silo { depths, ..silo.clone() };
-        let row = rows(&listing, &self.answers(&listing)?)[place.unwrap_or(0)];
+        let row = self.answers(&listing)?.rows[place.unwrap_or(0)];
         let filling = formulas::filling(silo, depth);
         self.row(silo, &row, depth, &filling)?;
         let reply: Vec<i64> = reply.into_iter().map(i64::from).collect();
-        let due = shell::reply(silo, row[7]);
+        let due = shell::reply(silo, row[P_P]);
         expect_of(reply == due, silo, || {
             format!("reply at depth {depth}: {}", unlike(&reply, &due))
         })?;

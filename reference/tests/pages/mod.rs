@@ -1,6 +1,7 @@
 //! Broken page calls: other layouts, each with the length that it has; wrong answers and lengths; memory that must not be written to.
 
 use crate::{answers_length, list_of, without_headroom, Length};
+use reference::answers::{Answers, COLUMNS, ROWS};
 use reference::calls::{Library, UNTOUCHED_BYTE};
 use reference::linked::Linked;
 use reference::page::{self, text};
@@ -9,7 +10,7 @@ use std::iter::repeat;
 use std::ops::Range;
 
 type Page = fn(&[u8], &mut [u8]) -> u32;
-type Layout = fn(&Silo, &[u64]) -> String;
+type Layout = fn(&Silo, &Answers<u64>) -> String;
 type Lines = Vec<Vec<String>>;
 
 /// Both page calls, or both by another layout.
@@ -47,7 +48,8 @@ impl Pages {
 pub const WHOLE: Pages = Pages::Calls(page, page_length);
 
 /// The page as it is due, made here: the stand-ins with other layouts change nothing else, or this would be found.
-pub const SAME: Pages = Pages::Laid(text);
+pub const SAME: Pages = Pages::Laid(DUE);
+const DUE: Layout = |_, answers| text(answers);
 
 pub fn page(sheet: &[u8], buffer: &mut [u8]) -> u32 {
     // SAFETY: each pointer is a slice's own.
@@ -63,13 +65,13 @@ pub fn page_length(sheet: &[u8]) -> u64 {
 fn laid_out(judged: Result<Silo, u64>, layout: Layout) -> Result<String, u64> {
     let silo = judged?;
     let list: Vec<u64> = list_of(&silo).into_iter().map(u64::from).collect();
-    Ok(layout(&silo, &list))
+    Ok(layout(&silo, &Answers::read(COLUMNS, silo.depths.len(), &list)))
 }
 
 /// The fields of each line.
-fn lines(silo: &Silo, list: &[u64]) -> Lines {
+fn lines(answers: &Answers<u64>) -> Lines {
     let fields = |line: &str| line.split_whitespace().map(String::from).collect();
-    text(silo, list).lines().map(fields).collect()
+    text(answers).lines().map(fields).collect()
 }
 
 fn set(lines: &[Vec<String>], field: impl Fn(&str) -> String) -> String {
@@ -82,90 +84,87 @@ fn right(field: &str) -> String {
 }
 
 /// The page with its numbers set otherwise.
-fn numbers(silo: &Silo, list: &[u64], set_number: fn(u64) -> String) -> String {
-    set(&lines(silo, list), |field| field.parse().map_or_else(|_| right(field), set_number))
+fn numbers(answers: &Answers<u64>, set_number: fn(u64) -> String) -> String {
+    set(&lines(answers), |field| field.parse().map_or_else(|_| right(field), set_number))
 }
 
 /// The page with some lines changed; `change` is told where the bottom begins.
-fn relined(silo: &Silo, list: &[u64], change: fn(&mut Lines, usize)) -> String {
-    let mut lines = lines(silo, list);
-    change(&mut lines, 1 + silo.depths.len());
+fn relined(answers: &Answers<u64>, change: fn(&mut Lines, usize)) -> String {
+    let mut lines = lines(answers);
+    change(&mut lines, 1 + answers.rows.len());
     set(&lines, right)
 }
 
 pub const LAYOUTS: &[(&str, Layout)] = &[
-    ("numbers left-justified", |silo, list| numbers(silo, list, |n| format!("{n:<9}"))),
-    ("leading zeros", |silo, list| numbers(silo, list, |n| format!("{n:09}"))),
-    ("one leading zero", |silo, list| numbers(silo, list, |n| right(&format!("0{n}")))),
-    ("spaces for 0", |silo, list| {
-        numbers(silo, list, |n| right(n.to_string().trim_matches(|_| n == 0)))
+    ("numbers left-justified", |_, answers| numbers(answers, |n| format!("{n:<9}"))),
+    ("leading zeros", |_, answers| numbers(answers, |n| format!("{n:09}"))),
+    ("one leading zero", |_, answers| numbers(answers, |n| right(&format!("0{n}")))),
+    ("spaces for 0", |_, answers| {
+        numbers(answers, |n| right(n.to_string().trim_matches(|_| n == 0)))
     }),
-    ("hexadecimal numbers", |silo, list| numbers(silo, list, |n| format!("{n:>9x}"))),
-    ("the eighth digit lost", |silo, list| {
-        numbers(silo, list, |n| right(&(n % 10_000_000).to_string()))
+    ("hexadecimal numbers", |_, answers| numbers(answers, |n| format!("{n:>9x}"))),
+    ("the eighth digit lost", |_, answers| {
+        numbers(answers, |n| right(&(n % 10_000_000).to_string()))
     }),
-    ("fields of ten characters", |silo, list| {
-        set(&lines(silo, list), |field| format!("{field:>10}"))
+    ("fields of ten characters", |_, answers| set(&lines(answers), |field| format!("{field:>10}"))),
+    ("fields of eight characters", |_, answers| {
+        set(&lines(answers), |field| format!("{field:>8}"))
     }),
-    ("fields of eight characters", |silo, list| {
-        set(&lines(silo, list), |field| format!("{field:>8}"))
-    }),
-    ("tabs for spaces", |silo, list| text(silo, list).replace(' ', "\t")),
-    ("no spaces before a field alone", |silo, list| {
-        let lines = lines(silo, list);
-        let (eight, one) = lines.split_at(1 + silo.depths.len());
+    ("tabs for spaces", |_, answers| text(answers).replace(' ', "\t")),
+    ("no spaces before a field alone", |_, answers| {
+        let lines = lines(answers);
+        let (eight, one) = lines.split_at(1 + answers.rows.len());
         set(eight, right) + &set(one, str::to_string)
     }),
-    ("no last line feed", |silo, list| text(silo, list).trim_end().into()),
-    ("a line feed more at the end", |silo, list| text(silo, list) + "\n"),
-    ("carriage returns", |silo, list| text(silo, list).replace('\n', "\r\n")),
-    ("Pw for PW", |silo, list| text(silo, list).replace("PW", "Pw")),
-    ("p_hf for phf", |silo, list| text(silo, list).replace(" phf", "p_hf")),
-    ("names left-justified", |silo, list| {
-        let lines = lines(silo, list);
+    ("no last line feed", |_, answers| text(answers).trim_end().into()),
+    ("a line feed more at the end", |_, answers| text(answers) + "\n"),
+    ("carriage returns", |_, answers| text(answers).replace('\n', "\r\n")),
+    ("Pw for PW", |_, answers| text(answers).replace("PW", "Pw")),
+    ("p_hf for phf", |_, answers| text(answers).replace(" phf", "p_hf")),
+    ("names left-justified", |_, answers| {
+        let lines = lines(answers);
         set(&lines[..1], |name| format!("{name:<9}")) + &set(&lines[1..], right)
     }),
-    ("no heading", |silo, list| relined(silo, list, |lines, _| drop(lines.remove(0)))),
-    ("pwf and pvf exchanged", |silo, list| {
-        relined(silo, list, |lines, bottom| {
-            lines[1..bottom].iter_mut().for_each(|row| row.swap(2, 3))
-        })
+    ("no heading", |_, answers| relined(answers, |lines, _| drop(lines.remove(0)))),
+    ("pwf and pvf exchanged", |_, answers| {
+        relined(answers, |lines, bottom| lines[1..bottom].iter_mut().for_each(|row| row.swap(2, 3)))
     }),
-    ("pwf and pvf exchanged, with their names", |silo, list| {
-        relined(silo, list, |lines, bottom| {
-            lines[..bottom].iter_mut().for_each(|row| row.swap(2, 3))
-        })
+    ("pwf and pvf exchanged, with their names", |_, answers| {
+        relined(answers, |lines, bottom| lines[..bottom].iter_mut().for_each(|row| row.swap(2, 3)))
     }),
-    ("the deepest first", |silo, list| {
-        relined(silo, list, |lines, bottom| lines[1..bottom].reverse())
+    ("eight numbers of the list on a line", |_, answers| {
+        text(&Answers::read(ROWS, answers.rows.len(), &answers.list(COLUMNS)))
     }),
-    ("the first depth's line for each", |silo, list| {
-        relined(silo, list, |lines, bottom| {
+    ("the deepest first", |_, answers| {
+        relined(answers, |lines, bottom| lines[1..bottom].reverse())
+    }),
+    ("the first depth's line for each", |_, answers| {
+        relined(answers, |lines, bottom| {
             let first = lines[1].clone();
             lines[1..bottom].fill(first);
         })
     }),
-    ("strakes before the bottom", |silo, list| {
-        relined(silo, list, |lines, bottom| lines[bottom..].rotate_left(10))
+    ("strakes before the bottom", |_, answers| {
+        relined(answers, |lines, bottom| lines[bottom..].rotate_left(10))
     }),
-    ("strakes from below", |silo, list| {
-        relined(silo, list, |lines, bottom| lines[bottom + 10..].reverse())
+    ("strakes from below", |_, answers| {
+        relined(answers, |lines, bottom| lines[bottom + 10..].reverse())
     }),
-    ("a flat floor without its zeros", |silo, list| {
-        let mut lines = lines(silo, list);
+    ("a flat floor without its zeros", |silo, answers| {
+        let mut lines = lines(answers);
         if silo.run == 0 {
             lines.drain(2 + silo.depths.len()..11 + silo.depths.len());
         }
         set(&lines, right)
     }),
-    ("the bottom on one line", |silo, list| {
-        relined(silo, list, |lines, bottom| {
+    ("the bottom on one line", |_, answers| {
+        relined(answers, |lines, bottom| {
             let numbers = lines.drain(bottom..bottom + 10).flatten().collect();
             lines.insert(bottom, numbers);
         })
     }),
-    ("z below the surface", |silo, list| {
-        let mut lines = lines(silo, list);
+    ("z below the surface", |silo, answers| {
+        let mut lines = lines(answers);
         for (line, z) in lines[1..].iter_mut().zip(&silo.depths) {
             line[0] = silo.load_depth(*z).to_string();
         }
@@ -273,13 +272,13 @@ pub const CALLS: &[(&str, Page)] = &[
     }),
     ("a short buffer cleared", |sheet, buffer| refused(sheet, buffer, 18..19, |_| String::new())),
     ("a short buffer filled", |sheet, buffer| {
-        refused(sheet, buffer, 18..19, |_| laid_out(parse(sheet), text).unwrap_or_default())
+        refused(sheet, buffer, 18..19, |_| laid_out(parse(sheet), DUE).unwrap_or_default())
     }),
     ("the refusal in the buffer", |sheet, buffer| {
         refused(sheet, buffer, 1..18, |answer| format!("REFUSED {answer}\n"))
     }),
     ("a long bin's page, with 20", |sheet, buffer| {
-        refused(sheet, buffer, 20..21, |_| laid_out(measure(sheet), text).unwrap_or_default())
+        refused(sheet, buffer, 20..21, |_| laid_out(measure(sheet), DUE).unwrap_or_default())
     }),
     ("20 in the buffer", |sheet, buffer| {
         refused(sheet, buffer, 20..21, |answer| format!("REFUSED {answer}\n"))

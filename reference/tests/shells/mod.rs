@@ -1,7 +1,8 @@
 //! Broken shell patch calls: other cosines, roundings, signs, pressures and forces; depths, lists and orders of refusals read otherwise; memory
 //! that must not be written to.
 
-use crate::{down, is_squat, list_of, without_headroom};
+use crate::{answers_of, down, is_squat, without_headroom};
+use reference::answers::{P_HE, P_HF, P_P};
 use reference::calls::{Library, UNTOUCHED_SIGNED};
 use reference::cosine::{BILLION, COSINES, TABLE};
 use reference::formulas::{self, patch_force};
@@ -19,13 +20,13 @@ pub fn shell_patch(sheet: &[u8], depth: u32, list: &mut [i32]) -> u32 {
     unsafe { Linked.shell_patch(sheet, depth, list) }
 }
 
-/// The library's number in a column of the row of that depth.
-fn number_at(silo: &Silo, depth: u64, column: usize) -> u64 {
-    list_of(&Silo { depths: vec![depth], ..silo.clone() })[column].into()
+/// The library's number for a load at that depth.
+fn number_at(silo: &Silo, depth: u64, load: usize) -> u64 {
+    answers_of(&Silo { depths: vec![depth], ..silo.clone() }).rows[0][load].into()
 }
 
 fn p_p(silo: &Silo, depth: u64) -> u64 {
-    number_at(silo, depth, 7)
+    number_at(silo, depth, P_P)
 }
 
 /// The library's answer, and its reply changed where it succeeds.
@@ -166,11 +167,11 @@ pub const REPLIES: &[(&str, Shell)] = &[
         replied(sheet, depth, list, |_, list| list.rotate_right(1))
     }),
     ("p_he for p_p", |sheet, depth, list| {
-        over(sheet, depth, list, |silo, depth| number_at(silo, depth, 5))
+        over(sheet, depth, list, |silo, depth| number_at(silo, depth, P_HE))
     }),
     ("a patch over p_hf", |sheet, depth, list| {
         over(sheet, depth, list, |silo, depth| {
-            whole(number_at(silo, depth, 1)).times(&formulas::patch(silo)).up()
+            whole(number_at(silo, depth, P_HF)).times(&formulas::patch(silo)).up()
         })
     }),
     ("p_p one more", |sheet, depth, list| {
@@ -184,7 +185,7 @@ pub const REPLIES: &[(&str, Shell)] = &[
     }),
     ("pressures over p_p before its rounding", |sheet, depth, list| {
         replied(sheet, depth, list, |silo, list| {
-            let patch = whole(number_at(silo, depth.into(), 5)).times(&formulas::patch(silo));
+            let patch = whole(number_at(silo, depth.into(), P_HE)).times(&formulas::patch(silo));
             for (degree, number) in list[..360].iter_mut().enumerate() {
                 let cosine = fraction(TABLE[folded(degree as u64)], BILLION);
                 *number = signed(patch.times(&cosine).up(), degree);
@@ -244,7 +245,7 @@ pub const REPLIES: &[(&str, Shell)] = &[
     }),
     ("a force over p_p before its rounding", |sheet, depth, list| {
         replied(sheet, depth, list, |silo, list| {
-            let p_he = whole(number_at(silo, depth.into(), 5));
+            let p_he = whole(number_at(silo, depth.into(), P_HE));
             let force = patch_force(silo, 1).times(&p_he.times(&formulas::patch(silo)));
             list[LENGTH - 1] = force.up() as i32;
         })

@@ -1,6 +1,5 @@
 -- The answer list as the program fills it, part by part.
-use Prim.Native.Nat.{ℕ, suc, max, _<_}
-use mathlib.Core.Path.{_≡_}
+use Prim.Native.Nat.{ℕ, suc, max}
 use mathlib.Core.List.{List, [], _∷_, _++_}
 use lib.ListN.{length, getD, take}
 use Rattle.janssen.specs.program.Pressure.{computed}
@@ -13,8 +12,8 @@ use Rattle.loads.specs.Load.{load-number, bottom-numbers}
 use Rattle.loads.specs.Load.Load.{p-he}
 use Rattle.loads.specs.program.Basis.{basis-for, depth-numbers}
 use Rattle.answers.specs.Each.{each}
-use Rattle.answers.specs.Place.{load-place}
 use Rattle.answers.specs.Answers.{silo-of, depth}
+use Rattle.answers.specs.program.Place.{in-places}
 
 -- the silo described, as its loads see it; e is the larger of e_i, e_o
 abbrev pub silo-in : Described → Silo
@@ -35,20 +34,6 @@ at-strake c heights k = load-number computed c p-he (sum (take (suc k) heights))
 
 abbrev pub strake-numbers : Silo → List ℕ → List ℕ
 strake-numbers c heights = each (at-strake c heights) 0 (length heights)
-
--- of the eight numbers of the depth i, of n, the first m stored in their places, and the rest of the list as it was lent
-pub record Placed (n i m : ℕ) (numbers lent list : List ℕ) : Type 0 where
-  pub sized : length list ≡ length lent
-  pub there : (r : ℕ) → r < m → getD list (load-place n r i) 0 ≡ getD numbers r 0
-  pub elsewhere : (k : ℕ) → ((r : ℕ) → r < m → k ≡ load-place n r i → ⊥) → getD list k 0 ≡ getD lent k 0
-
--- a number for each x below a and y below b, those of an x together
-unfoldable pub grid : ℕ → ℕ → (ℕ → ℕ → ℕ) → List ℕ
-grid a b number = each (λ x. each (λ y. number x y ∷ []) 0 b) 0 a
-
--- number r of the eight of each depth i, of n, in its place
-abbrev pub in-places : ℕ → (ℕ → ℕ → ℕ) → List ℕ
-in-places n number = grid n 8 (λ i r. number r i)
 
 -- the numbers of the depth i of a sheet
 abbrev pub at-depth : List ℕ → ℕ → List ℕ

@@ -1,4 +1,4 @@
--- The page as the program writes it, from an answer list that has the numbers of its depths in an order.
+-- The page as the program writes it, from an answer list that has the numbers of its depths in the order `place`; the program's is `load-place`.
 use Prim.Native.Nat.{ℕ, _+_, _-_}
 use mathlib.Core.List.{List, [], _∷_, _++_}
 use lib.ListN.{length, getD}

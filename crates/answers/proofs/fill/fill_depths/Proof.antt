@@ -11,7 +11,8 @@ use Rattle.records.specs.Format.{payload}
 use Rattle.description.specs.declared.Depths.{Depths}
 use Rattle.description.specs.Silo.{depth-count}
 use Rattle.sheet.proofs.Acceptance.{accepted}
-use Rattle.answers.specs.program.Fill.{Placed, at-depth, number-of}
+use Rattle.answers.specs.program.Place.{Placed}
+use Rattle.answers.specs.program.Fill.{at-depth, number-of}
 use Rattle.answers.proofs.Placing.{PlacedTo, depths-start, depths-next, depths-done}
 use Rattle.answers.proofs.Demand.{depth-reached}
 use Rattle.answers.proofs.Whole.{depth-read, depths-near, basis-sound}

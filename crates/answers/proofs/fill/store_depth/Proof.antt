@@ -6,7 +6,7 @@ use borrow.Author.Needs.{needs}
 use native.Mathlib.Omega.{arith}
 use lib.ListN.{getD, set}
 use mathlib.Core.List.{List}
-use Rattle.answers.specs.program.Fill.{Placed}
+use Rattle.answers.specs.program.Place.{Placed}
 use Rattle.answers.proofs.Placing.{placed-start, placed-next}
 use Rattle.answers.proofs.fill.store_depth.Statement.{statement}
 use Rattle.answers.proofs.fill.store_depth.Tie as tie

@@ -1,20 +1,28 @@
--- The order of the list, opened.
+-- The place is inside the columns (`load-under`), so nothing overflows.
 use mathlib.Core.Path.{refl}
-use borrow.Author.Needs.{needs}
 use native.Mathlib.Omega.{arith}
 use Rattle.answers.specs.Place.{load-place}
+use Rattle.answers.proofs.PlaceLaws.{load-under}
 use Rattle.answers.proofs.place.load_place.Statement.{statement}
 use Rattle.answers.proofs.place.load_place.Tie as tie
 
 mul-result : tie.Need-mul-result
-mul-result c = search needs
+unfolding load-place
+mul-result c =
+    let a = c .args in
+    omega (arith, c .pre .0, load-under (a .depths) (a .r) (a .i) (c .pre .1) (c .pre .2))
 
 add-result : tie.Need-add-result
-add-result c = search needs
+unfolding load-place
+add-result c =
+    let a = c .args in
+    omega (arith, c .pre .0, load-under (a .depths) (a .r) (a .i) (c .pre .1) (c .pre .2))
 
 returns : tie.Need-returns
 unfolding load-place
-returns c = (refl, search needs)
+returns c =
+    let a = c .args in
+    (refl, load-under (a .depths) (a .r) (a .i) (c .pre .1) (c .pre .2))
 
 pub load-place-spec : {M : Type 1} → statement M
 load-place-spec = tie.close (tie.spec mul-result add-result returns)

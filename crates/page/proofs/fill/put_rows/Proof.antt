@@ -39,7 +39,7 @@ put-row-requires c κs =
     let l = c .before .before .loop in
     let start = c .before .before .before .before .before in
     let t = c .before .loop-test .taken in
-    (start .pre .0, omega (arith, l .inv .1, start .pre .1, t), start .pre .2, t, start .pre .3)
+    (start .pre .0, omega (arith, l .inv .1, start .pre .1, t), start .pre .2, omega (arith, t), start .pre .3)
 
 add-i : tie.Need-add-i Inv-loop μ-loop
 add-i c = search needs
