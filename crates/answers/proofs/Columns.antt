@@ -10,7 +10,7 @@ use mathlib.Core.Path.{_≡_, refl, ap, sym, subst, _∙_}
 use mathlib.Core.List.{List, [], _∷_, _++_, map}
 use native.Mathlib.Nat.{not-suc-le-zero, le-of-suc-le-suc}
 use native.Mathlib.Omega.{arith}
-use lib.ListN.{length, getD, take, drop, length-append, length-drop, List·getD-append}
+use lib.ListN.{length, getD, drop, length-append, length-drop, length-map, List·getD-append}
 use lib.Seq.{getD-append-add, getD-take, getD-drop, length-take-le, ext-getD}
 use Rattle.janssen.specs.Numbers.{FillingNumbers}
 use Rattle.description.specs.Silo.{strake-count, depths-of, depth-count}
@@ -33,10 +33,6 @@ use Rattle.answers.proofs.PlaceLaws.{column-before}
 use Rattle.answers.proofs.Places.{rank-most, at-load}
 use Rattle.answers.proofs.Order.{depths-hold}
 
-map-length : (g : ℕ → ℕ) (l : List ℕ) → length (map g l) ≡ length l
-map-length g [] = refl
-map-length g (x ∷ l) = ap suc (map-length g l)
-
 map-at : (g : ℕ → ℕ) (l : List ℕ) (i : ℕ) → i < length l → getD (map g l) i 0 ≡ g (getD l i 0)
 map-at g [] i h = absurd (not-suc-le-zero h)
 map-at g (x ∷ l) zero h = refl
@@ -57,7 +53,7 @@ module _ (f : FillingNumbers) (s list : List ℕ) (a : Filled f s list) where
       let g = load-number f (silo-of s) l in
       let ends : from + n ≤ 8 * n = column-before n (rank l) 8 (rank-most l) in
       let sized : length (column s list l) ≡ n = length-take-le n (drop from list) (omega (arith, length-drop from list, due, ends)) in
-      ext-getD 0 (column s list l) (map g (depths-of s)) (sized ∙ sym (map-length g (depths-of s) ∙ depths-length s))
+      ext-getD 0 (column s list l) (map g (depths-of s)) (sized ∙ sym (length-map (depths-of s) g ∙ depths-length s))
       (λ i h.
       let here : i < n = omega (arith, h, sized) in
       getD-take n (drop from list) i 0 here

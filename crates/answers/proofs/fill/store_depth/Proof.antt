@@ -1,11 +1,10 @@
 -- The invariant: the first r of the eight are in their places.
 -- Assumes nothing.
 use Prim.Native.Nat.{ℕ, _+_, _-_, _≤_}
-use mathlib.Core.Path.{_≡_, ap, sym, subst}
+use mathlib.Core.Path.{_≡_, sym, subst}
 use borrow.Author.Needs.{needs}
 use native.Mathlib.Omega.{arith}
 use lib.ListN.{getD, set}
-use mathlib.Core.List.{List}
 use Rattle.answers.specs.program.Place.{Placed}
 use Rattle.answers.proofs.Placing.{placed-start, placed-next}
 use Rattle.answers.proofs.fill.store_depth.Statement.{statement}
