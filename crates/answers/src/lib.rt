@@ -1,4 +1,6 @@
 // The answer list of a sheet: the call that fills it. Document 01, "Answer list" and "Who can be refused"; document 02, C-13.
+#![tactic(auto)]
+
 ghost use Rattle.exponential.specs.program.Table.{table};
 ghost use Rattle.janssen.specs.program.Pressure.{computed_by};
 ghost use Rattle.answers.specs.Promise.{Promise};

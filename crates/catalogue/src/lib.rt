@@ -1,4 +1,6 @@
 // The catalogue of products: table 7.1 of source 001.
+#![tactic(auto)]
+
 ghost use Rattle.std.specs.Prelude.{◌≡◌, ◌+◌, ◌/◌, ◌%◌, ◌<◌, length, set};
 ghost use Rattle.records.specs.Rules.{first_unmet};
 ghost use Rattle.catalogue.specs.Table.{row_of, product_for, record_of, catalogue_rules, catalogue_after};

@@ -1,4 +1,6 @@
 // The cosines of 0 to 90 degrees, in billionths. The table is named once for a call, where the list is filled, and lent down.
+#![tactic(auto)]
+
 ghost use Rattle.std.specs.Prelude.{◌≡◌, ◌<◌, ◌≤◌};
 ghost use Rattle.cosine.specs.Cosine.{CosineTable};
 ghost use Rattle.cosine.specs.program.Table.{table, entry};

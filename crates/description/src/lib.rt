@@ -1,4 +1,6 @@
 // The silo that a sheet describes: the values of its records. Document 01, "Sheet"; document 02, C-13.
+#![tactic(auto)]
+
 ghost use Rattle.std.specs.Prelude.{◌≡◌, ◌+◌, ◌<◌, ◌≤◌, length};
 ghost use Rattle.records.specs.program.Reader.{Located};
 ghost use Rattle.description.specs.Silo.{strake_count};

@@ -1,4 +1,6 @@
 // Loads on wall and flat floor made from filling pressures. Source 001, clauses 5.2.1.2, 5.2.2.1 and 5.3.
+#![tactic(auto)]
+
 ghost use Rattle.std.specs.Prelude.{◌≡◌, ◌*◌, ◌^◌, ◌<◌, ◌≤◌, max};
 ghost use Rattle.discharge.specs.Discharge.{magnifier, magnified_load, patch_load, C_b};
 ghost use Rattle.discharge.specs.program.Magnifier.{horizontal_magnifier, friction_magnifier, held, Moderate};

@@ -1,4 +1,6 @@
 // 2^40·e^(-q) from below, from a table of its values at every 64th and a fraction of two short polynomials between them.
+#![tactic(auto)]
+
 ghost use Rattle.std.specs.Prelude.{◌≡◌, ◌*◌, ◌^◌, ◌<◌, ◌≤◌};
 ghost use Rattle.exponential.specs.program.Table.{table};
 ghost use Rattle.exponential.specs.program.Lower.{denominator, lower};

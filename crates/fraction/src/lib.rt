@@ -1,4 +1,6 @@
 // Exact arithmetic: quotients rounded once, and products and quotients of more than 64 bits worked out digit by digit.
+#![tactic(auto)]
+
 ghost use Rattle.std.specs.Prelude.{◌≡◌, ◌+◌, ◌*◌, ◌/◌, ◌^◌, ◌<◌, ◌≤◌};
 ghost use Rattle.fraction.specs.Fraction.{◌⊘◌, up};
 

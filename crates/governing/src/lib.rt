@@ -1,4 +1,6 @@
 // Of two strake lists the one that governs a bin with two products. Document 01, "Answer list".
+#![tactic(auto)]
+
 ghost use Rattle.std.specs.Prelude.{◌≡◌, ◌<◌, length};
 ghost use Rattle.governing.specs.Strakes.{last, governs, governs_number};
 ghost use Rattle.governing.specs.Handed.{Handed};

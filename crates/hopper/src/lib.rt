@@ -1,4 +1,6 @@
 // Loads on a hopper made from the vertical filling pressure at the wall's foot. Source 001, clause 5.2.1.3.
+#![tactic(auto)]
+
 ghost use Rattle.std.specs.Prelude.{◌≡◌, ◌+◌, ◌*◌, ◌^◌, ◌<◌, ◌≤◌};
 ghost use Rattle.fraction.specs.Fraction.{◌⊘◌, up};
 ghost use Rattle.janssen.specs.Filling.{grain_of};

@@ -1,4 +1,6 @@
 // Filling pressures by Janssen's formula. Source 001, clauses 5.2.1 and 7.3.
+#![tactic(auto)]
+
 ghost use Rattle.std.specs.Prelude.{◌≡◌, ◌+◌, ◌-◌, ◌*◌, ◌/◌, ◌^◌, ◌<◌, ◌≤◌};
 ghost use Rattle.fraction.specs.Fraction.{◌⊘◌, up};
 ghost use Rattle.exponential.specs.program.Table.{table};

@@ -1,4 +1,6 @@
 // Prints the load page of the sheet on standard input, or REFUSED and the refusal's number. Document 02, C-15.
+#![tactic(auto)]
+
 ghost use Rattle.std.specs.Prelude.{◌≡◌, ◌≤◌, ◌<◌, length, take};
 ghost use Rattle.std.proofs.lemmas.List.Edits.{sets};
 ghost use Rattle.io.specs.Counts.{IsPrefixLen};

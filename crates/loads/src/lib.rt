@@ -1,4 +1,6 @@
 // The numbers of the loads: of a depth, of the bottom, of a strake.
+#![tactic(auto)]
+
 ghost use Rattle.std.specs.Prelude.{◌≡◌, ◌++◌, map, ◌^◌, ◌<◌, ◌≤◌};
 ghost use Rattle.hopper.specs.Hopper.{P_n, P_t};
 ghost use Rattle.exponential.specs.program.Table.{table};

@@ -1,4 +1,6 @@
 // The load page of a sheet: text for the dealer's folder. Document 02, C-15.
+#![tactic(auto)]
+
 ghost use Rattle.std.specs.Prelude.{◌≡◌, ◌<◌, ◌≤◌};
 ghost use Rattle.exponential.specs.program.Table.{table};
 ghost use Rattle.janssen.specs.program.Pressure.{computed_by};

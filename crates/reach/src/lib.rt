@@ -1,4 +1,6 @@
 // Down to where a plate carries: the calls for the greatest depth at which p_he is not above a pressure. Document 02, C-19.
+#![tactic(auto)]
+
 ghost use Rattle.std.specs.Prelude.{◌≡◌, length};
 ghost use Rattle.exponential.specs.program.Table.{table};
 ghost use Rattle.janssen.specs.program.Pressure.{computed_by, computed};

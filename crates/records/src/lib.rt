@@ -1,4 +1,6 @@
 // The records of a data sheet. Document 01, "Sheet"; document 02, C-13.
+#![tactic(auto)]
+
 pub mod bytes; // little-endian numbers, read in place
 pub mod layout; // the records: rules 1 to 5, and where each begins
 pub mod reader; // a record reader on the caller's sheet

@@ -1,5 +1,7 @@
 // The refusals of a data sheet, and the silo that it describes. Document 01, "Who can be refused"; document 02, C-13
 // and C-17.
+#![tactic(auto)]
+
 ghost use Rattle.std.specs.Prelude.{◌≡◌, leb};
 ghost use Rattle.records.specs.Rules.{first_unmet};
 ghost use Rattle.records.specs.Format.{layout_rules};

@@ -1,4 +1,6 @@
 // The patch round a thin circular shell at one depth. Document 02, C-16.
+#![tactic(auto)]
+
 ghost use Rattle.std.specs.Prelude.{◌≡◌, ◌≤◌, length};
 ghost use Rattle.exponential.specs.program.Table.{table};
 ghost use Rattle.cosine.specs.program.Table.{table as cosine-table, entry};

@@ -1,4 +1,6 @@
 // What a host sees: the exported calls over the crates below. `include/silo.h` declares them for C.
+#![tactic(auto)]
+
 ghost use Rattle.std.specs.Prelude.{◌≡◌, length};
 ghost use Rattle.records.specs.Rules.{first_unmet};
 ghost use Rattle.answers.specs.Told.{told_number};
