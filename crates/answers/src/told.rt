@@ -3,7 +3,7 @@ ghost use Rattle.std.specs.Prelude.{◌≡◌, ◌<◌};
 ghost use Rattle.answers.specs.Told.{told, told_number};
 
 // The number due, or the refusal's.
-#[derive(Drop)]
+#[derive(Clone, Copy)]
 pub enum Told {
     Due(u32),
     Refused(u32),

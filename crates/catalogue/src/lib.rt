@@ -8,7 +8,7 @@ ghost use Rattle.catalogue.specs.Table.{row_of, product_for, record_of, catalogu
 use janssen::Product;
 
 // A row of the table.
-#[derive(Drop)]
+#[derive(Clone, Copy)]
 pub struct Material {
     // γ, N/m³
     pub weight: u64,

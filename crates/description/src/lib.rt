@@ -12,21 +12,21 @@ use janssen::{Product, Section};
 pub mod values; // the values that the records hold
 
 // e_i and e_o, mm.
-#[derive(Drop)]
+#[derive(Clone, Copy)]
 pub struct Eccentricities {
     pub inlet: u64,
     pub outlet: u64,
 }
 
 // The hopper's height H and run r, mm; both 0 is a flat floor.
-#[derive(Drop)]
+#[derive(Clone, Copy)]
 pub struct Bottom {
     pub height: u64,
     pub run: u64,
 }
 
 // 1 to 24 strakes, top first, with their count; mm. The places past the count are 0.
-#[derive(Drop)]
+#[derive(Clone, Copy)]
 pub struct Wall {
     pub heights: [u64; 24],
     pub count: usize,
@@ -35,21 +35,21 @@ pub struct Wall {
 }
 
 // The wall passed so far, going down: how many strakes, and the lower edge of the last, mm below the brim.
-#[derive(Drop)]
+#[derive(Clone, Copy)]
 pub struct WallState {
     pub passed: usize,
     pub edge: u64,
 }
 
 // The listed depths: where they begin in the sheet, and how many they are.
-#[derive(Drop)]
+#[derive(Clone, Copy)]
 pub struct Depths {
     pub start: usize,
     pub count: usize,
 }
 
 // What a sheet describes, each value read once; the product as sent.
-#[derive(Drop)]
+#[derive(Clone, Copy)]
 pub struct Described {
     pub section: Section,
     pub product: Product,

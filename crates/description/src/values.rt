@@ -65,7 +65,7 @@ pub fn product_read(sent: Product) -> Product
 }
 
 // Two numbers of four bytes.
-#[derive(Drop)]
+#[derive(Clone, Copy)]
 struct Pair {
     first: u64,
     second: u64,

@@ -9,7 +9,7 @@ ghost use Rattle.fraction.specs.Fraction.{◌⊘◌};
 use janssen::Pascals;
 
 // What a filling pressure is multiplied by: top/bottom.
-#[derive(Drop)]
+#[derive(Clone, Copy)]
 pub struct Magnifier {
     pub top: u64,
     pub bottom: u64,

@@ -14,7 +14,7 @@ pub fn quotient_up(n: u64, d: u64) -> u64
 }
 
 // A quotient with its rest: the number divided is whole·divisor + rest.
-#[derive(Drop)]
+#[derive(Clone, Copy)]
 pub struct Quotient {
     pub whole: u64,
     pub rest: u64,

@@ -11,14 +11,14 @@ ghost use Rattle.janssen.specs.program.Pressure.{decay, pressure, loaded_depth, 
 ghost use Rattle.janssen.specs.program.Prepare.{prepared_for, pressure_on, loads_on, Reaches, AllReach};
 
 // The cross-section, mm.
-#[derive(Drop)]
+#[derive(Clone, Copy)]
 pub enum Section {
     Circle(u64),
     Rectangle(u64, u64),
 }
 
 // The stored product.
-#[derive(Drop)]
+#[derive(Clone, Copy)]
 pub struct Product {
     // γ, N/m³
     pub weight: u64,
@@ -31,15 +31,15 @@ pub struct Product {
 }
 
 // A pressure.
-#[derive(Drop)]
+#[derive(Clone, Copy)]
 pub struct Pascals(pub u32);
 
 // A load for each metre of the wall's perimeter.
-#[derive(Drop)]
+#[derive(Clone, Copy)]
 pub struct NewtonsPerMetre(pub u32);
 
 // What a filling pressure takes from section and product.
-#[derive(Drop)]
+#[derive(Clone, Copy)]
 pub struct Curve {
     // q for each mm, 2^-55
     pub step: u64,
@@ -48,7 +48,7 @@ pub struct Curve {
 }
 
 // What the filling loads take from section and product, worked out once.
-#[derive(Drop)]
+#[derive(Clone, Copy)]
 pub struct Prepared {
     pub horizontal: Curve,
     pub vertical: Curve,
@@ -58,7 +58,7 @@ pub struct Prepared {
 }
 
 // The filling loads at a depth.
-#[derive(Drop)]
+#[derive(Clone, Copy)]
 pub struct FillingLoads {
     // p_hf
     pub horizontal: Pascals,

@@ -13,7 +13,7 @@ use discharge::Magnifier;
 use janssen::{Pascals, Prepared, Product, Section};
 
 // A silo as its loads see it.
-#[derive(Drop)]
+#[derive(Clone, Copy)]
 pub struct Silo {
     pub section: Section,
     pub product: Product,
@@ -29,7 +29,7 @@ pub struct Silo {
 }
 
 // What is worked out once for a silo.
-#[derive(Drop)]
+#[derive(Clone, Copy)]
 pub struct Basis {
     pub silo: Silo,
     pub prepared: Prepared,
@@ -101,7 +101,7 @@ pub fn depth_numbers(entries: &[u64; 3393], basis: Basis, z: u64) -> [u32; 8]
 }
 
 // The hopper's loads at one place of its slope.
-#[derive(Drop)]
+#[derive(Clone, Copy)]
 pub struct HopperLoads {
     // P_n
     pub normal: Pascals,

@@ -10,7 +10,7 @@ ghost use Rattle.reach.specs.program.Search.{Between};
 use loads::Basis;
 
 // Two depths: at `low` p_he is not above the pressure, below `high` it is, down to the foot.
-#[derive(Drop)]
+#[derive(Clone, Copy)]
 pub struct Bracket {
     pub low: u64,
     pub high: u64,

@@ -17,14 +17,14 @@ use janssen::{Product, Section};
 pub mod rules; // rules 6 to 12, 17 and 20 on the values
 
 // What a call is asked for: a length or a count, or loads.
-#[derive(Drop)]
+#[derive(Clone, Copy)]
 pub enum Asked {
     Length,
     Loads,
 }
 
 // What a sheet describes, beside its first refusal, or 0.
-#[derive(Drop)]
+#[derive(Clone, Copy)]
 pub struct Judged {
     pub refused: u32,
     pub described: Described,

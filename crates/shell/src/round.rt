@@ -7,7 +7,7 @@ ghost use Rattle.shell.specs.program.Fill.{placed};
 use janssen::Pascals;
 
 // A force.
-#[derive(Drop)]
+#[derive(Clone, Copy)]
 pub struct Newtons(pub u32);
 
 // The size of p_p·cos; p is p_p, from 0 to 90 degrees.
