@@ -4,7 +4,6 @@ pub mod Fills
 pub mod Records
 pub mod Alike
 pub mod Numbers
-pub mod Walks
 pub mod Stores
 pub mod Followed
 pub mod Written

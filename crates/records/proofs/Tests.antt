@@ -13,9 +13,11 @@ absurd x = elim x [ ]
 
 pub holds_true : (b : Bool) → T b → b ≡ true
 holds_true true h = refl
+holds_true false h = elim h [ ]
 
 pub fails_false : (b : Bool) → T (not b) → b ≡ false
 fails_false false h = refl
+fails_false true h = elim h [ ]
 
 pub false_true : false ≡ true → ⊥
 false_true h = let z : ◌≡◌ {A = ℕ} 0 1 = cc in omega arith

@@ -4,14 +4,14 @@ ghost use Rattle.records.specs.program.Reader.{Stands};
 
 use crate::bytes::two_bytes;
 
-#[derive(Drop)]
+#[derive(Clone, Copy)]
 pub struct Reader<'a> {
     pub sheet: &'a [u8],
     pub at: usize,
 }
 
 // A record: where it begins, its kind, where its payload begins and the bytes that it has.
-#[derive(Drop)]
+#[derive(Clone, Copy)]
 pub struct Record {
     pub place: usize,
     pub kind: u64,
