@@ -6,7 +6,7 @@ ghost use Rattle.governing.specs.Strakes.{last, governs, governs_number};
 ghost use Rattle.governing.specs.Handed.{Handed};
 
 // Which of two strake lists governs.
-#[derive(Drop)]
+#[derive(Clone, Copy)]
 pub enum Governs {
     Neither,
     First,
