@@ -2,10 +2,9 @@
 use mathlib.Core.Path.{refl}
 use native.Mathlib.Omega.{arith}
 use Rattle.janssen.specs.Section.{side_a, side_b}
-use Rattle.sheet.proofs.blank.Statement.{statement}
-use Rattle.sheet.proofs.blank.Tie as tie
+use Rattle.sheet.proofs.blank.Goals as goal
 
-returns : tie.Need-returns
+pub returns : goal.returns
 unfolding side_a side_b
 returns c =
     record {
@@ -22,6 +21,3 @@ returns c =
       depths_few = omega arith;
       headroom_small = omega arith;
     }
-
-pub blank-spec : {M : Type 1} → statement M
-blank-spec = tie.close (tie.spec returns)
