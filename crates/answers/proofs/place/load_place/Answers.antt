@@ -3,26 +3,22 @@ use mathlib.Core.Path.{refl}
 use native.Mathlib.Omega.{arith}
 use Rattle.answers.specs.Place.{load_place}
 use Rattle.answers.proofs.PlaceLaws.{load_under}
-use Rattle.answers.proofs.place.load_place.Statement.{statement}
-use Rattle.answers.proofs.place.load_place.Tie as tie
+use Rattle.answers.proofs.place.load_place.Goals as goal
 
-mul-result : tie.Need-overflow-mul-result
+pub overflow_mul-result : goal.overflow_mul-result
 unfolding load_place
-mul-result c =
+overflow_mul-result c =
     let a = c.args in
     omega (arith, c.requires.0, load_under a.depths a.r a.i c.requires.1 c.requires.2)
 
-add-result : tie.Need-overflow-add-result
+pub overflow_add-result : goal.overflow_add-result
 unfolding load_place
-add-result c =
+overflow_add-result c =
     let a = c.args in
     omega (arith, c.requires.0, load_under a.depths a.r a.i c.requires.1 c.requires.2)
 
-returns : tie.Need-returns
+pub returns : goal.returns
 unfolding load_place
 returns c =
     let a = c.args in
     (refl, load_under a.depths a.r a.i c.requires.1 c.requires.2)
-
-pub load-place-spec : {M : Type 1} → statement M
-load-place-spec = tie.close (tie.spec mul-result add-result returns)
