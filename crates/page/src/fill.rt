@@ -6,7 +6,7 @@ ghost use Rattle.description.specs.program.Described.{described_of};
 ghost use Rattle.sheet.specs.Refusal.{refusal_of};
 ghost use Rattle.answers.specs.Place.{load_place, bottom_place};
 ghost use Rattle.answers.specs.program.Fill.{answers};
-ghost use Rattle.page.specs.Page.{heading as heading-line, page_due};
+ghost use Rattle.page.specs.Page.{heading as heading_line, page_due};
 ghost use Rattle.page.specs.program.Text.{row_text, number_text, rows, rest, page_text};
 
 use answers::place::{bottom_place, load_place};
@@ -14,7 +14,7 @@ use description::Described;
 
 // The heading's bytes.
 fn heading() -> [u8; 73]
-    ensures { result ≡ heading-line }
+    ensures { result ≡ heading_line }
 {
     *b"        z      phf      pwf      pvf       PW      phe      pwe       pp\n"
 }

@@ -3,7 +3,7 @@
 
 ghost use Rattle.std.specs.Prelude.{◌≡◌, ◌≤◌, length};
 ghost use Rattle.exponential.specs.program.Table.{table};
-ghost use Rattle.cosine.specs.program.Table.{table as cosine-table, entry};
+ghost use Rattle.cosine.specs.program.Table.{table as cosine_table, entry};
 ghost use Rattle.janssen.specs.program.Pressure.{computed_by, computed};
 ghost use Rattle.description.specs.Silo.{V_of};
 ghost use Rattle.description.specs.program.Described.{described_of};
@@ -36,7 +36,7 @@ fn fill_by(
     depth: u64,
     reply: &mut [i32],
 )
-    requires { (entries.now ≡ table) × (cosines.now ≡ cosine-table) × (refusal_of sheet.now ≡ 0) × (described ≡ described_of sheet.now) × (depth ≤ V_of sheet.now) × (length reply.old ≡ 361) }
+    requires { (entries.now ≡ table) × (cosines.now ≡ cosine_table) × (refusal_of sheet.now ≡ 0) × (described ≡ described_of sheet.now) × (depth ≤ V_of sheet.now) × (length reply.old ≡ 361) }
     ensures { ReplyListOf computed entry sheet.now depth reply.new }
 {
     let basis = answers::fill::described_basis(described);
