@@ -1,10 +1,6 @@
 -- In its cases (`Call`): refused for the sheet, for the pressures, for the list's length, or filled.
-use mathlib.Core.Path.{◌≡◌, sym, ◌∙◌}
-use mathlib.Core.Bool.{Bool}
-use Rattle.description.specs.program.Described.{described_of}
-use Rattle.sheet.specs.Refusal.{refusal_of}
+use mathlib.Core.Path.{sym, ◌∙◌}
 use Rattle.sheet.proofs.Chains.{loads_examined, examined_met}
-use Rattle.reach.specs.Reach.{pressures_met}
 use Rattle.reach.proofs.NeverFalls.{never_falls}
 use Rattle.reach.proofs.Call.{refused, falling, other_length, filled}
 use Rattle.reach.proofs.depths_for.Goals as goal

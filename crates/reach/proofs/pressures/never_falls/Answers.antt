@@ -1,5 +1,4 @@
 -- The invariant: what is still to be told of the list is told of those behind the pressures passed, from the last of them on.
-use Prim.Native.Nat.{◌-◌}
 use mathlib.Core.Path.{sym, ap, ◌∙◌, refl}
 use native.Mathlib.Numerals.{add-one}
 use native.Mathlib.Omega.{arith}

@@ -1,5 +1,4 @@
 -- The invariant is `Passed`: the depths of the pressures passed stand in the depths, and the search has come to the last of them.
-use Prim.Native.Nat.{◌-◌}
 use mathlib.Core.Path.{sym, ◌∙◌}
 use native.Mathlib.Omega.{arith}
 use Rattle.janssen.specs.program.Pressure.{computed}
