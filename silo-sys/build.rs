@@ -1,11 +1,10 @@
-//! Links target/staticlib/libsilo.a. Where it is missing or older than its sources, `rt` makes it first, which proves what has changed.
+//! Links target/staticlib/libsilo.a. Where it is missing or older than its sources, `tools/library` makes it first, which proves what has
+//! changed.
 
 use std::io;
-use std::path::Path;
+use std::path::{Path, PathBuf};
 use std::process::Command;
 use std::time::SystemTime;
-
-const SOURCES: [&str; 2] = ["crates", "crates.txt"];
 
 /// When a file, or anything in a folder, was last changed.
 fn changed(path: &Path) -> io::Result<SystemTime> {
@@ -18,10 +17,25 @@ fn changed(path: &Path) -> io::Result<SystemTime> {
     Ok(last)
 }
 
-fn is_made(root: &Path) -> io::Result<bool> {
+/// What the library is made from: crates.txt, and what each crate holds but out/, where rt keeps what it made.
+fn sources(root: &Path) -> io::Result<Vec<PathBuf>> {
+    let mut found = vec![root.join("crates.txt")];
+    for folder in root.join("crates").read_dir()? {
+        for inside in folder?.path().read_dir()? {
+            let inside = inside?;
+            if inside.file_name() != "out" {
+                found.push(inside.path());
+            }
+        }
+    }
+    found.sort();
+    Ok(found)
+}
+
+fn is_made(root: &Path, sources: &[PathBuf]) -> io::Result<bool> {
     let made = changed(&root.join("target/staticlib/libsilo.a"))?;
-    for source in SOURCES {
-        if changed(&root.join(source))? >= made {
+    for source in sources {
+        if changed(source)? >= made {
             return Ok(false);
         }
     }
@@ -30,12 +44,13 @@ fn is_made(root: &Path) -> io::Result<bool> {
 
 fn main() {
     let root = concat!(env!("CARGO_MANIFEST_DIR"), "/..");
-    for source in SOURCES {
-        println!("cargo:rerun-if-changed={root}/{source}");
+    let sources = sources(Path::new(root)).expect("the crates' folders");
+    for source in &sources {
+        println!("cargo:rerun-if-changed={}", source.display());
     }
-    if !is_made(Path::new(root)).unwrap_or(false) {
-        let made = Command::new("rt").args(["staticlib", "silo"]).current_dir(root).status();
-        assert!(made.is_ok_and(|status| status.success()), "rt staticlib silo makes no library");
+    if !is_made(Path::new(root), &sources).unwrap_or(false) {
+        let made = Command::new(format!("{root}/tools/library")).status();
+        assert!(made.is_ok_and(|status| status.success()), "tools/library makes no library");
     }
     // A library that was put there is linked too.
     println!("cargo:rerun-if-changed={root}/target/staticlib/libsilo.a");

@@ -20,9 +20,11 @@ const SOURCES: [&str; 7] = [
 ];
 const LIBRARY: &str = "target/staticlib/libsilo.a";
 const TOOL: &str = "target/release/silo";
-/// All that the script calls beside rt, cargo and gcc.
-const SYSTEM: [&str; 10] =
-    ["bash", "env", "dirname", "readlink", "find", "mkdir", "touch", "mv", "cp", "sleep"];
+/// The script, and the one that it calls for the library.
+const SCRIPTS: [&str; 2] = ["run", "tools/library"];
+/// All that they call beside rt, cargo and gcc.
+const SYSTEM: [&str; 11] =
+    ["bash", "env", "dirname", "readlink", "find", "mkdir", "touch", "mv", "cp", "tee", "sleep"];
 
 struct Project(PathBuf);
 
@@ -37,8 +39,12 @@ impl Project {
         for source in SOURCES {
             project.put(source, "");
         }
-        fs::create_dir_all(project.path("bin")).expect("a folder");
-        fs::copy(root().join("run"), project.path("run")).expect("the script");
+        for folder in ["bin", "tools"] {
+            fs::create_dir_all(project.path(folder)).expect(folder);
+        }
+        for script in SCRIPTS {
+            fs::copy(root().join(script), project.path(script)).expect(script);
+        }
         for program in SYSTEM {
             let found = std::env::split_paths(&std::env::var_os("PATH").expect("PATH"))
                 .map(|folder| folder.join(program))
@@ -46,7 +52,8 @@ impl Project {
             symlink(found.expect(program), project.path("bin").join(program)).expect(program);
         }
         project.program("bin/gcc", "true");
-        project.program("bin/rt", "echo rt $* >>calls; echo >target/staticlib/libsilo.a");
+        let made = "echo rt $* >>../../calls; mkdir -p out; echo >out/libsilo.a";
+        project.program("bin/rt", made);
         project.program("bin/cargo", "echo cargo >>calls; cp tool target/release/silo");
         project.program("tool", "echo tool $*; exit 1");
         project.put(LIBRARY, "");
@@ -132,7 +139,7 @@ fn a_changed_source_is_built_once() {
         let _ = fs::remove_file(project.path("target/release/.run-start"));
         project.put(source, "changed");
         let library = source.starts_with("crates");
-        let calls = if library { "rt staticlib silo\ncargo\n" } else { "cargo\n" };
+        let calls = if library { "rt lib\ncargo\n" } else { "cargo\n" };
         assert_eq!(project.calls(), calls, "{source}");
         assert_eq!(project.calls(), "", "{source}");
     }
@@ -141,6 +148,18 @@ fn a_changed_source_is_built_once() {
         fs::remove_file(project.path(missing)).expect(missing);
         assert!(project.calls().ends_with("cargo\n"), "{missing}");
     }
+}
+
+/// A proof, or the gate, may leave or remove what rt makes.
+#[test]
+fn what_rt_makes_is_no_source() {
+    let project = Project::new("made");
+    project.put("crates/silo/out/libsilo.a", "made");
+    project.age();
+    project.put("crates/silo/out/libsilo.a", "made anew");
+    assert_eq!(project.calls(), "");
+    fs::remove_dir_all(project.path("crates/silo/out")).expect("the folder");
+    assert_eq!(project.calls(), "");
 }
 
 /// Cargo may find that nothing has to be done, and a source may be changed while it works.

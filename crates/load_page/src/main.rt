@@ -2,8 +2,9 @@
 #![tactic(auto)]
 
 ghost use Rattle.std.specs.Prelude.{◌≡◌, ◌≤◌, ◌<◌, length, take};
+ghost use Rattle.std.specs.Counts.{IsPrefixLen};
+ghost use Rattle.std.specs.Io.{ReadsAtMost};
 ghost use Rattle.std.proofs.lemmas.List.Edits.{sets};
-ghost use Rattle.io.specs.Counts.{IsPrefixLen};
 ghost use Rattle.text.specs.Text.{digit};
 ghost use Rattle.janssen.specs.program.Pressure.{computed};
 ghost use Rattle.sheet.specs.Refusal.{refusal_of};
@@ -11,7 +12,8 @@ ghost use Rattle.page.specs.Page.{page_due};
 ghost use Rattle.load_page.specs.Reply.{refused_text, printed};
 
 use answers::told::Told;
-use libc::{STDERR_FILENO, STDIN_FILENO, STDOUT_FILENO};
+use std::io;
+use std::io::Read;
 
 // The character of a digit.
 fn digit_of(n: u32) -> u8
@@ -62,28 +64,31 @@ fn reply(sheet: &[u8], out: &mut [u8]) -> usize
     page_bytes(sheet)
 }
 
-// Whether standard input has ended: a read that fails is no end.
-fn at_end() -> bool {
-    let mut more = [0u8; 1];
-    libc::read(STDIN_FILENO, &mut more) == 0
+// Reads until the buffer is full or the input ends; how many bytes it put at the buffer's start. A read that fails is no end.
+fn read_full<R: Read>(input: &mut R, buf: &mut [u8]) -> io::Result<usize>
+    ensures { ReadsAtMost result buf.new }
+{
+    let mut done = 0;
+    while done < buf.len() {
+        let n = input.read(&mut buf[done..])?;
+        if n == 0 {
+            break;
+        }
+        done += n;
+    }
+    Ok(done)
 }
 
-fn main() {
+fn main(rt: HostRuntime) {
     // One byte more than the longest sheet, so that a longer one is seen.
     let mut sheet = [0u8; 1025];
-    let n = io::read_full(STDIN_FILENO, &mut sheet);
-    if n < 1025 {
-        if !at_end() {
-            io::write_all(STDERR_FILENO, b"load_page: standard input cannot be read\n");
-            return;
-        }
-    }
+    let Ok(n) = read_full(&mut rt.stdin(), &mut sheet) else {
+        let _ = rt.eprintln("load_page: standard input cannot be read");
+        return;
+    };
     let mut out = [0u8; 16384];
     let k = reply(&sheet[..n], &mut out);
-    if !io::write_all(STDOUT_FILENO, &out[..k]) {
-        io::write_all(
-            STDERR_FILENO,
-            b"load_page: standard output cannot be written\n",
-        );
+    if rt.write_all(&out[..k]).is_err() {
+        let _ = rt.eprintln("load_page: standard output cannot be written");
     }
 }
