@@ -13,9 +13,9 @@ returns-then-n-lt10-clause-text c =
 pub returns-clause-count : goal.returns-clause-count
 returns-clause-count c =
     (two_stored c.args.out.now c.put_text.new.out c.args.n c.put_text.ensures c.digit_of-2.result c.digit_of-3.result c.if-n-lt10.false c.requires.0
-        c.digit_of-2.ensures c.digit_of-3.ensures).0
+    c.digit_of-2.ensures c.digit_of-3.ensures).0
 
 pub returns-clause-text : goal.returns-clause-text
 returns-clause-text c =
     (two_stored c.args.out.now c.put_text.new.out c.args.n c.put_text.ensures c.digit_of-2.result c.digit_of-3.result c.if-n-lt10.false c.requires.0
-        c.digit_of-2.ensures c.digit_of-3.ensures).1
+    c.digit_of-2.ensures c.digit_of-3.ensures).1
