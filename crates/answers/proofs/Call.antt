@@ -18,7 +18,7 @@ use Rattle.records.proofs.Fills.{fills_refused, fills_done}
 use Rattle.sheet.specs.Refusal.{refusal_of}
 use Rattle.sheet.proofs.Chains.{sheet_first, sheet_passed, sheet_met, call_never_13}
 use Rattle.answers.specs.Length.{length_due, answers_length}
-use Rattle.answers.specs.declared.told.Told.TheVariants.{Due, Refused}
+use Rattle.answers.specs.declared.length.Length.TheVariants.{Due, Refused}
 use Rattle.answers.specs.Answers.{Filled, loads_rules}
 use Rattle.answers.specs.Claim.{Claim}
 use Rattle.answers.specs.Order.{LeftFor}

@@ -1,4 +1,3 @@
-pub mod ToldLaws
 pub mod LengthLaws
 pub mod Stores
 pub mod PlaceLaws

@@ -25,7 +25,7 @@ use Rattle.answers.specs.Answers.{silo_of, depth, strake_in, Filled, loads_rules
 use Rattle.answers.specs.Order.{load_in}
 use Rattle.answers.specs.Promise.{Promise}
 use Rattle.answers.proofs.Places.{at_load, filled_once}
-use Rattle.answers.proofs.ToldLaws.{told_same}
+use Rattle.answers.proofs.LengthLaws.{told_same}
 use Rattle.answers.proofs.Call.{not_refused}
 
 -- the same silo, wall and depths

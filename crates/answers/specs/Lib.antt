@@ -1,6 +1,5 @@
 pub mod Each
 pub mod Place
-pub mod Told
 pub mod Length
 pub mod Answers
 pub mod Claim

@@ -10,7 +10,6 @@ use sheet::Asked;
 pub mod fill; // the answer list, part by part
 pub mod length; // the call that tells its length
 pub mod place; // where a number stands in the list
-pub mod told; // what a call answers that tells one number
 
 // The load call: 0 with the list filled, or the number of the first refusal with the list as it was.
 pub fn loads(sheet: &[u8], answers: &mut [u32]) -> u32

@@ -29,7 +29,7 @@ use Rattle.description.specs.Silo.{section_of, product_sent, product_of, factor_
 use Rattle.sheet.specs.Refusal.{sides_met, proportion_met, strakes_met, depths_met, value_rules, rules_with, length_refusal, refusal_of}
 use Rattle.sheet.proofs.Layouts.{layout_numbered}
 use Rattle.answers.specs.Length.{length_due}
-use Rattle.answers.specs.Told.{told}
+use Rattle.answers.specs.Length.{told}
 use Rattle.answers.specs.Answers.{silo_of}
 use Rattle.answers.proofs.Demand.{same_height}
 use Rattle.cases.specs.Cases.{behind_section, case_sheet, rectangle_sheet, case_product, case_silo, middle_number, OfHeight, Marked}

@@ -17,7 +17,7 @@ use Rattle.loads.specs.Load.{load_number}
 use Rattle.loads.specs.Load.Load.{listed_depth, p_hf, p_wf, p_vf, P_w, p_he, p_we, p_p}
 use Rattle.loads.specs.Holds.{Holds}
 use Rattle.sheet.specs.Refusal.{value_rules, refusal_of}
-use Rattle.answers.specs.declared.told.Told.TheVariants.{Due}
+use Rattle.answers.specs.declared.length.Length.TheVariants.{Due}
 use Rattle.answers.specs.Length.{answers_length}
 use Rattle.answers.specs.Answers.{silo_of}
 use Rattle.answers.specs.Promise.{Promise}

@@ -21,7 +21,7 @@ use Rattle.description.specs.declared.Described.{Described}
 use Rattle.description.specs.program.Described.{wall_of, described_of}
 use Rattle.sheet.specs.Refusal.{refusal_of}
 use Rattle.sheet.proofs.Chains.{sheet_first, sheet_passed, call_never_13}
-use Rattle.answers.specs.declared.told.Told.TheVariants.{Due, Refused}
+use Rattle.answers.specs.declared.length.Length.TheVariants.{Due, Refused}
 use Rattle.answers.specs.Place.{load_place}
 use Rattle.answers.specs.Answers.{FilledBy}
 use Rattle.answers.specs.Columns.{row_place}

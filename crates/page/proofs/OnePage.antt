@@ -16,7 +16,7 @@ use Rattle.sheet.proofs.Parts.{SameParts, loads_alike}
 use Rattle.answers.specs.Factor.{with_factor, Blank}
 use Rattle.answers.specs.Place.{load_place}
 use Rattle.answers.specs.Answers.{Filled}
-use Rattle.answers.proofs.ToldLaws.{told_same}
+use Rattle.answers.proofs.LengthLaws.{told_same}
 use Rattle.answers.proofs.OneSilo.{OneSilo, Alike, filled_same, measured_alike, accepted_alike}
 use Rattle.answers.proofs.Headroom.{level, level_alike}
 use Rattle.answers.proofs.Factor.{blank_alike}

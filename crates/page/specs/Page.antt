@@ -10,8 +10,8 @@ use Rattle.loads.specs.Load.{Load}
 use Rattle.loads.specs.Load.{eight, load_number, bottom_numbers}
 use Rattle.loads.specs.Load.Load.{listed_depth, p_hf, p_wf, p_vf, P_w, p_he, p_we, p_p}
 use Rattle.answers.specs.Each.{each}
-use Rattle.answers.specs.declared.told.Told.{Told}
-use Rattle.answers.specs.Told.{told}
+use Rattle.answers.specs.declared.length.Length.{Length}
+use Rattle.answers.specs.Length.{told}
 use Rattle.answers.specs.Answers.{silo_of, depth}
 
 -- a load's name in the heading
@@ -57,7 +57,7 @@ unfoldable pub page_due : List ℕ → ℕ
 page_due s = page_size (depth_count s) (strake_count s)
 
 -- what its length call answers
-abbrev pub page_length : List ℕ → Told
+abbrev pub page_length : List ℕ → Length
 page_length s = told (length_refusal s) (page_due s)
 
 -- the rules of the page call, lent a buffer of so many bytes: those of the sheet, then 18

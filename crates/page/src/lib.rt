@@ -7,7 +7,7 @@ ghost use Rattle.janssen.specs.program.Pressure.{computed_by};
 ghost use Rattle.page.specs.Page.{page_size, page_length};
 ghost use Rattle.page.specs.Promise.{PagePromise};
 
-use answers::told::Told;
+use answers::length::Length;
 use sheet::Asked;
 
 mod fill; // the page, line by line
@@ -21,12 +21,12 @@ fn page_due(depths: usize, strakes: usize) -> usize
 }
 
 // The page's length call: how many bytes the page of a sheet has, or the refusal.
-pub fn page_length(sheet: &[u8]) -> Told
+pub fn page_length(sheet: &[u8]) -> Length
     ensures { result ≡ page_length sheet.now }
 {
     let judged = sheet::examine(Asked::Length, sheet, 0);
     let described = judged.described;
-    Told::of(
+    Length::told(
         judged.refused,
         page_due(described.depths.count, described.wall.count),
     )

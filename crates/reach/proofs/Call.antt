@@ -25,7 +25,7 @@ use Rattle.sheet.proofs.Described.{V_most}
 use Rattle.loads.specs.declared.Basis.{Basis}
 use Rattle.loads.specs.program.Basis.{basis_for, Sound}
 use Rattle.answers.specs.Answers.{silo_of}
-use Rattle.answers.specs.Told.{told, told_number}
+use Rattle.answers.specs.Length.{told, length_number}
 use Rattle.answers.specs.program.Fill.{silo_in, basis_of, answers}
 use Rattle.answers.proofs.Places.{answers_filled}
 use Rattle.answers.proofs.Demand.{claim}
@@ -119,9 +119,9 @@ module _ (s : List ℕ) (p r : ℕ) (left : List ℕ) (x : DepthsPromise compute
   same_refusal : r ≡ refusal_of s
   same_refusal = x.1.answer ∙ one_refusal s p
 
-  pub asked_alone : DepthPromise computed_by table s p (told_number (told r (get_or left 0 0)))
+  pub asked_alone : DepthPromise computed_by table s p (length_number (told r (get_or left 0 0)))
   asked_alone =
-      (x.0, (get_or left 0 0, ap (λ (k : ℕ). told_number (told k (get_or left 0 0))) same_refusal, λ h. (x.1.done (same_refusal ∙ h)).each 0 (omega arith)))
+      (x.0, (get_or left 0 0, ap (λ (k : ℕ). length_number (told k (get_or left 0 0))) same_refusal, λ h. (x.1.done (same_refusal ∙ h)).each 0 (omega arith)))
 
   pub alone_small : get_or left 0 0 < 131072
   alone_small = at (dec_le r 0)

@@ -31,11 +31,11 @@ use Rattle.loads.proofs.LoadLaws.{load_depth_rises}
 use Rattle.answers.specs.Answers.{silo_of, depth, strake_in}
 use Rattle.answers.specs.Claim.{Claim}
 use Rattle.answers.specs.Order.{load_in}
-use Rattle.answers.specs.Told.{told_number}
+use Rattle.answers.specs.Length.{length_number}
 use Rattle.answers.proofs.Places.{at_load}
 use Rattle.answers.proofs.Demand.{silo_fits}
 use Rattle.answers.proofs.Order.{p_he_load}
-use Rattle.answers.proofs.ToldLaws.{told_due, refusal_told}
+use Rattle.answers.proofs.LengthLaws.{told_due, told_number}
 use Rattle.reach.specs.Reach.{p_he_of, Deepest}
 use Rattle.reach.specs.Order.{NeverFalls}
 use Rattle.reach.specs.Promise.{DepthPromise, DepthsPromise}
@@ -94,9 +94,9 @@ module _ (f : List ℕ → FillingNumbers) (t s pressures lent left : List ℕ) 
       (m.0, never_falls pressures m.1, m.2)
 
   pub as_asked_alone : (i r : ℕ) → i < length pressures → DepthPromise f t s (get_or pressures i 0) r → r ≡ 4294967296 + get_or left i 0
-  unfolding told_number
+  unfolding length_number
   as_asked_alone i r g (_, (d, e, x)) =
-      e ∙ ap told_number (told_due (refusal_of s) d met.0) ∙ ap (λ (n : ℕ). 4294967296 + n) (unique _ (x met.0) ((listed.1.done refl).each i g))
+      e ∙ ap length_number (told_due (refusal_of s) d met.0) ∙ ap (λ (n : ℕ). 4294967296 + n) (unique _ (x met.0) ((listed.1.done refl).each i g))
 
   pub reply_never_falls : NeverFalls left
   reply_never_falls i g =
@@ -108,7 +108,7 @@ module _ (f : List ℕ → FillingNumbers) (t s pressures lent left : List ℕ) 
 module _ (f : List ℕ → FillingNumbers) (t s : List ℕ) (p r : ℕ) (asked : DepthPromise f t s p r) where
   never : (n : ℕ) → 0 < n → n < 4294967296 → has (sheet_rules s) n ≡ false → r ≡ n → ⊥
   unfolding refusal_of
-  never n some small none e = absent (sheet_rules s) n some none (refusal_told (refusal_of s) asked.1.0 n small (sym asked.1.1 ∙ e))
+  never n some small none e = absent (sheet_rules s) n some none (told_number (refusal_of s) asked.1.0 n small (sym asked.1.1 ∙ e))
 
   abbrev without : ℕ → List Rule → Type 0
   without n l = has (l ++ value_rules false true s) n ≡ false

@@ -8,7 +8,7 @@ use Rattle.description.specs.Silo.{V_of}
 use Rattle.sheet.specs.Refusal.{refusal_of}
 use Rattle.answers.specs.Answers.{silo_of}
 use Rattle.answers.specs.Claim.{Claim}
-use Rattle.answers.specs.Told.{told, told_number}
+use Rattle.answers.specs.Length.{told, length_number}
 use Rattle.reach.specs.Reach.{p_he_of, Deepest, Depths, depths_rules}
 
 -- whatever the pressures: the table keeps its rule, and demand 3 holds of the filling numbers in an accepted sheet's answer list
@@ -18,7 +18,7 @@ Free f t s = Tabulated t × (refusal_of s ≡ 0 → (answers : List ℕ) × Clai
 -- one pressure p: the sheet's refusal, or 2^32 and the depth for it
 abbrev pub DepthPromise : (List ℕ → FillingNumbers) → List ℕ → List ℕ → ℕ → ℕ → Type 0
 DepthPromise f t s p r =
-    Free f t s × ((d : ℕ) × (r ≡ told_number (told (refusal_of s) d)) × (refusal_of s ≡ 0 → Deepest (p_he_of (f t) (silo_of s)) (V_of s) p d))
+    Free f t s × ((d : ℕ) × (r ≡ length_number (told (refusal_of s) d)) × (refusal_of s ≡ 0 → Deepest (p_he_of (f t) (silo_of s)) (V_of s) p d))
 
 -- a list of pressures: the lent list of depths is filled with one for each
 abbrev pub DepthsPromise : (List ℕ → FillingNumbers) → List ℕ → List ℕ → List ℕ → List ℕ → ℕ → List ℕ → Type 0

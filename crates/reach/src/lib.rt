@@ -8,12 +8,12 @@ ghost use Rattle.description.specs.Silo.{V_of};
 ghost use Rattle.description.specs.program.Described.{described_of};
 ghost use Rattle.sheet.specs.Refusal.{refusal_of};
 ghost use Rattle.answers.specs.Answers.{silo_of};
-ghost use Rattle.answers.specs.Told.{told_number};
+ghost use Rattle.answers.specs.Length.{length_number};
 ghost use Rattle.reach.specs.Reach.{p_he_of, Depths};
 ghost use Rattle.reach.specs.Order.{NeverFalls};
 ghost use Rattle.reach.specs.Promise.{DepthPromise, DepthsPromise};
 
-use answers::told::Told;
+use answers::length::Length;
 use description::Described;
 use sheet::Asked;
 
@@ -63,11 +63,11 @@ pub fn depths_for(sheet: &[u8], pressures: &[u32], depths: &mut [u32]) -> u32
 }
 
 // The single question, which is the list of this pressure alone: the depth, mm, or the refusal; the pressure in Pa.
-pub fn depth_for(sheet: &[u8], pressure: u32) -> Told
-    ensures { DepthPromise computed_by table sheet.now pressure (told_number result) }
+pub fn depth_for(sheet: &[u8], pressure: u32) -> Length
+    ensures { DepthPromise computed_by table sheet.now pressure (length_number result) }
 {
     let pressures = [pressure];
     let mut depths: [u32; 1] = [0];
     let refused = depths_for(sheet, &pressures, &mut depths);
-    Told::of(refused, depths[0] as usize)
+    Length::told(refused, depths[0] as usize)
 }

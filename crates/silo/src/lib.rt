@@ -3,7 +3,7 @@
 
 ghost use Rattle.std.specs.Prelude.{◌≡◌, length};
 ghost use Rattle.records.specs.Rules.{first_unmet};
-ghost use Rattle.answers.specs.Told.{told_number};
+ghost use Rattle.answers.specs.Length.{length_number};
 ghost use Rattle.answers.specs.Length.{answers_length};
 ghost use Rattle.catalogue.specs.Table.{catalogue_rules, catalogue_after};
 ghost use Rattle.governing.specs.Strakes.{governs, governs_number};
@@ -27,7 +27,7 @@ pub extern "C" fn silo_loads(sheet: &[u8], answers: &mut [u32]) -> u32
 // 2^32 and the length due of the answer list, or the number of the first refusal.
 #[unsafe(no_mangle)]
 pub extern "C" fn silo_answers_length(sheet: &[u8]) -> u64
-    ensures { result ≡ told_number (answers_length sheet.now) }
+    ensures { result ≡ length_number (answers_length sheet.now) }
 {
     answers::length::answers_length(sheet).number()
 }
@@ -35,7 +35,7 @@ pub extern "C" fn silo_answers_length(sheet: &[u8]) -> u64
 // 2^32 and the page's length in bytes, or the number of the first refusal.
 #[unsafe(no_mangle)]
 pub extern "C" fn silo_page_length(sheet: &[u8]) -> u64
-    ensures { result ≡ told_number (page_length sheet.now) }
+    ensures { result ≡ length_number (page_length sheet.now) }
 {
     page::page_length(sheet).number()
 }

@@ -8,8 +8,8 @@ overflow_cast-depths c =
     let a = c.args in
     omega (arith, alone_small a.sheet.now a.pressure c.depths_for-refused.result _ c.depths_for-refused.ensures)
 
-pub of-requires : goal.of-requires
-of-requires c =
+pub told-requires : goal.told-requires
+told-requires c =
     let a = c.args in
     omega (arith, alone_small a.sheet.now a.pressure c.depths_for-refused.result _ c.depths_for-refused.ensures)
 
@@ -17,4 +17,4 @@ pub returns : goal.returns
 returns c =
     let asked = c.depths_for-refused in
     let a = c.args in
-    rw c.of.ensures (asked_alone a.sheet.now a.pressure asked.result _ asked.ensures)
+    rw c.told.ensures (asked_alone a.sheet.now a.pressure asked.result _ asked.ensures)

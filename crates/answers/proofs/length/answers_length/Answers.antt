@@ -1,7 +1,7 @@
 -- The sheet's refusal, and the length by the counts of the silo described where there is none.
 use mathlib.Core.Path.{◌∙◌}
 use Rattle.sheet.proofs.Chains.{length_examined}
-use Rattle.answers.proofs.ToldLaws.{told_same}
+use Rattle.answers.proofs.LengthLaws.{told_same}
 use Rattle.answers.proofs.LengthLaws.{described_due}
 use Rattle.answers.proofs.length.answers_length.Goals as goal
 
@@ -13,4 +13,4 @@ returns c =
     let counted = c.length_due in
     let judged = c.examine-judged in
     let s = c.args.sheet.now in
-    c.of.ensures ∙ told_same (length_examined s judged.result judged.ensures) (λ h. described_due s judged.result.described counted.result (judged.ensures.silo h) counted.ensures.0)
+    c.told.ensures ∙ told_same (length_examined s judged.result judged.ensures) (λ h. described_due s judged.result.described counted.result (judged.ensures.silo h) counted.ensures.0)
