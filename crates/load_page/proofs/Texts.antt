@@ -1,27 +1,29 @@
 -- The texts at the start of the buffer: REFUSED and a number below 100, or the page. The buffer has room for both, so the page call's own 18 never
 -- comes, and what it answers is the sheet's refusal.
 -- Assumes nothing.
-use Prim.Native.Nat.{ℕ, ◌/◌, ◌%◌, ◌≤◌, ◌<◌}
-use mathlib.Core.Path.{◌≡◌, refl, ap, sym, ◌∙◌}
+use Prim.Native.Nat.{ℕ, ◌+◌, ◌/◌, ◌%◌, ◌≤◌, ◌<◌}
+use mathlib.Core.Path.{◌≡◌, refl, ap, sym, subst, ◌∙◌}
 use mathlib.Core.Bool.{cond}
 use mathlib.Core.List.{List, [], ◌∷◌, ◌++◌}
 use native.Mathlib.Decide.{dec_le, dec_lt}
 use native.Mathlib.Omega.{arith}
 use borrow.Author.Tests.{eq-eqb, ne_eqb, le-leb}
 use lib.Dec.{leb}
-use lib.ListN.{length, take, set, length-append}
-use lib.Seq.{sets, take_at}
+use lib.ListN.{length, take, drop, set, length-append}
+use lib.Seq.{sets, sets-eq, take_at}
 use Rattle.text.specs.Text.{ascii, line_feed, digit}
 use Rattle.text.proofs.Fields.{single, double}
 use Rattle.records.specs.Rules.{◌unless◌, first_unmet}
-use Rattle.janssen.specs.program.Pressure.{computed}
+use Rattle.exponential.specs.program.Table.{table}
+use Rattle.janssen.specs.program.Pressure.{computed_by, computed}
 use Rattle.sheet.specs.Refusal.{length_refusal, refusal_of}
-use Rattle.sheet.proofs.Chains.{accepted_measured}
+use Rattle.sheet.proofs.Chains.{accepted_measured, refusal_small}
 use Rattle.answers.specs.declared.told.Told.{Told}
 use Rattle.answers.specs.declared.told.Told.TheVariants.{Due, Refused}
 use Rattle.answers.proofs.ToldLaws.{told_due}
 use Rattle.page.specs.Page.{page, page_due, page_length, page_rules}
-use Rattle.page.proofs.Call.{refused_page, last_of_page}
+use Rattle.page.specs.Promise.{PagePromise}
+use Rattle.page.proofs.Call.{refused_page, last_of_page, page_length_is}
 use Rattle.page.proofs.Room.{page_most}
 use Rattle.load_page.specs.Reply.{refused_text, printed}
 
@@ -85,3 +87,28 @@ length_told (Refused r) = 0
 
 pub told_of_page : (s : List ℕ) (l : Told) → l ≡ page_length s → refusal_of s ≡ 0 → length_told l ≡ page_due s
 told_of_page s l e h = ap length_told (e ∙ told_due (length_refusal s) (page_due s) (accepted_measured s h))
+
+-- ---- what the program prints, at the start of the buffer that the page call was lent and left
+module _ (s lent left : List ℕ) (r : ℕ) (room : 16384 ≤ length lent) (p : PagePromise computed_by table s lent r left) where
+  pub answered : r ≡ refusal_of s
+  answered = p.1.answer ∙ sheet_answer s (length lent) room
+
+  pub answered_small : r < 100
+  answered_small = omega (arith, answered, refusal_small s)
+
+  -- the refusal's text, stored over it
+  pub refusal_printed : (n : ℕ) (out : List ℕ) → (r ≡ 0 → ⊥) → length left ≡ length lent → n ≡ length (refused_text r) → out ≡ sets left 0 (refused_text r)
+      → AtStart n out (printed computed s)
+  refusal_printed n out some same count text =
+      let fits : 0 + length (refused_text r) ≤ length left = omega (arith, refused_length r answered_small, room, same) in
+      subst (AtStart n out) (refused_is s r answered some)
+      (at_start (refused_text r) (drop (0 + length (refused_text r)) left) out n count (text ∙ sets-eq (refused_text r) left 0 fits))
+
+  -- the page
+  pub page_left : (n : ℕ) → r ≡ 0 → (refusal_of s ≡ 0 → n ≡ page_due s) → AtStart n left (printed computed s)
+  page_left n none due =
+      let accepted : refusal_of s ≡ 0 = sym answered ∙ none in
+      let done = p.1.done none in
+      let long = page_length_is computed s done.demand.0 accepted done.demand.1 in
+      subst (AtStart n left) (page_printed s accepted)
+      (at_start (page computed s) (drop (page_due s) lent) left n (due accepted ∙ sym long) done.text)

@@ -58,7 +58,8 @@ fn reply(sheet: &[u8], out: &mut [u8]) -> usize
     ensures text { take result out.new ≡ printed computed sheet.now }
 {
     let refused = page::page(sheet, out);
-    if refused != 0 {
+    let is_refused = refused != 0;
+    if is_refused {
         return put_refused(out, refused);
     }
     page_bytes(sheet)
