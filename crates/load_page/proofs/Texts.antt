@@ -18,9 +18,9 @@ use Rattle.exponential.specs.program.Table.{table}
 use Rattle.janssen.specs.program.Pressure.{computed_by, computed}
 use Rattle.sheet.specs.Refusal.{length_refusal, refusal_of}
 use Rattle.sheet.proofs.Chains.{accepted_measured, refusal_small}
-use Rattle.answers.specs.declared.told.Told.{Told}
-use Rattle.answers.specs.declared.told.Told.TheVariants.{Due, Refused}
-use Rattle.answers.proofs.ToldLaws.{told_due}
+use Rattle.answers.specs.declared.length.Length.{Length}
+use Rattle.answers.specs.declared.length.Length.TheVariants.{Due, Refused}
+use Rattle.answers.proofs.LengthLaws.{told_due}
 use Rattle.page.specs.Page.{page, page_due, page_length, page_rules}
 use Rattle.page.specs.Promise.{PagePromise}
 use Rattle.page.proofs.Call.{refused_page, last_of_page, page_length_is}
@@ -81,12 +81,12 @@ at_start text behind out r e f =
     ((omega (arith, e, ap length f, length-append text behind), e ∙ sym (ap length t)), t)
 
 -- ---- the length told for an accepted sheet
-abbrev pub length_told : Told → ℕ
-length_told (Due n) = n
-length_told (Refused r) = 0
+abbrev pub told_number : Length → ℕ
+told_number (Due n) = n
+told_number (Refused r) = 0
 
-pub told_of_page : (s : List ℕ) (l : Told) → l ≡ page_length s → refusal_of s ≡ 0 → length_told l ≡ page_due s
-told_of_page s l e h = ap length_told (e ∙ told_due (length_refusal s) (page_due s) (accepted_measured s h))
+pub told_of_page : (s : List ℕ) (l : Length) → l ≡ page_length s → refusal_of s ≡ 0 → told_number l ≡ page_due s
+told_of_page s l e h = ap told_number (e ∙ told_due (length_refusal s) (page_due s) (accepted_measured s h))
 
 -- ---- what the program prints, at the start of the buffer that the page call was lent and left
 module _ (s lent left : List ℕ) (r : ℕ) (room : 16384 ≤ length lent) (p : PagePromise computed_by table s lent r left) where

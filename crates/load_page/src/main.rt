@@ -11,7 +11,7 @@ ghost use Rattle.sheet.specs.Refusal.{refusal_of};
 ghost use Rattle.page.specs.Page.{page_due};
 ghost use Rattle.load_page.specs.Reply.{refused_text, printed};
 
-use answers::told::Told;
+use answers::length::Length;
 use std::io;
 use std::io::Read;
 
@@ -46,8 +46,8 @@ fn page_bytes(sheet: &[u8]) -> usize
     ensures { refusal_of sheet.now ≡ 0 → result ≡ page_due sheet.now }
 {
     match page::page_length(sheet) {
-        Told::Due(length) => length as usize,
-        Told::Refused(_) => 0,
+        Length::Due(length) => length as usize,
+        Length::Refused(_) => 0,
     }
 }
 
