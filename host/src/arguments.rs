@@ -1,15 +1,12 @@
 //! The command line's words as a task.
 
-mod asked;
 pub mod help;
 pub mod hint;
 mod table;
 
-use asked::{is_part, Words};
 use silo::commands::Format;
 use silo::name::suggestion;
-use silo::number::{LENGTH, STRESS};
-use silo::reach::Asked;
+use silo::number::LENGTH;
 use silo::units::Units;
 use silo::value::quantity;
 use std::ffi::{OsStr, OsString};
@@ -26,22 +23,14 @@ const FORMATS: [(&str, Format); 3] =
 struct Arguments {
     /// All words, for hints.
     given: Vec<OsString>,
-    /// The command, its file, and of `reach` the pressures.
+    /// The command and its file.
     words: Vec<OsString>,
-    /// Where each of them stands among all.
-    places: Vec<usize>,
     /// Names of `OPTIONS`, each once.
     options: Vec<&'static str>,
     /// After `-o`.
     output: Option<OsString>,
     /// After `--depth`, mm.
     depth: Option<u32>,
-    /// After `--reach`, Pa.
-    pressures: Option<Vec<u32>>,
-    /// After `--plate`, tenths of a mm.
-    plates: Option<Vec<u32>>,
-    /// After `--stress`, N/mm2.
-    stress: Option<u32>,
 }
 
 /// A command with what it works on.
@@ -55,8 +44,6 @@ pub struct Task {
     pub units: Units,
     /// Of a patch, mm below the brim.
     pub depth: Option<u32>,
-    /// How deep the wall carries.
-    pub asked: Option<Asked>,
     /// Degrees from one pressure of a patch to the next.
     pub step: usize,
     pub force: bool,
@@ -78,15 +65,11 @@ fn arguments(all: Vec<OsString>) -> Result<Arguments, String> {
     let mut read = Arguments { given: all.clone(), ..Arguments::default() };
     let mut given = all.into_iter().peekable();
     while let Some(word) = given.next() {
-        let place = read.given.len() - given.len() - 1;
         let (name, value) = parts(&word);
         match (name.as_str(), value) {
             ("--help" | "-h", None) => return Ok(alone("help")),
             ("--version" | "-V", None) => return Ok(alone("version")),
-            ("--", None) => {
-                read.places.extend(place + 1..read.given.len());
-                read.words.extend(given.by_ref());
-            }
+            ("--", None) => read.words.extend(given.by_ref()),
             ("-o", value) => {
                 read.add("-o", &word)?;
                 read.output = Some(file_after(value, &mut given)?);
@@ -95,26 +78,9 @@ fn arguments(all: Vec<OsString>) -> Result<Arguments, String> {
                 read.add("--depth", &word)?;
                 read.depth = Some(depth_after(value, &mut given)?);
             }
-            ("--reach", value) => {
-                read.add("--reach", &word)?;
-                read.pressures = Some(list_after("--reach", value, &mut given, &read.given)?);
-            }
-            ("--plate", value) => {
-                read.add("--plate", &word)?;
-                read.plates = Some(list_after("--plate", value, &mut given, &read.given)?);
-            }
-            ("--stress", value) => {
-                read.add("--stress", &word)?;
-                let is_unit = |word: &str| STRESS.is_unit(word);
-                let stress = words_after("--stress", value, &mut given, is_unit)?;
-                read.stress = Some(asked::stress(&stress.join(" "))?);
-            }
             (option, None) if is_option(option) => read.add(option, &word)?,
             (option, Some(value)) => return Err(valueless(option, &value, &word)),
-            _ => {
-                read.places.push(place);
-                read.words.push(word);
-            }
+            _ => read.words.push(word),
         }
     }
     Ok(read)
@@ -131,16 +97,6 @@ fn parts(word: &OsStr) -> (String, Option<OsString>) {
     let (name, value) = bytes.split_at(split.unwrap_or(bytes.len()));
     let value = split.map(|_| OsStr::from_bytes(&value[1..]).to_os_string());
     (String::from_utf8_lossy(name).into_owned(), value)
-}
-
-/// What may stand after an option.
-fn such_as(option: &str) -> &'static str {
-    table::option(option).map_or("", |choice| choice.value)
-}
-
-/// What is wrong where one of two options stands alone.
-fn beside(option: &str, other: &str) -> String {
-    format!("{option}: {other} is due beside it, such as {other} {}", such_as(other))
 }
 
 fn alone(command: &str) -> Arguments {
@@ -185,36 +141,6 @@ fn depth_after(
     let depth = format!("{} {}", number.display(), unit.display());
     let depth = quantity(depth.trim(), &LENGTH).map_err(|why| format!("--depth {why}"))?;
     Ok(depth as u32)
-}
-
-/// An option's value in several words: those behind the first as far as `is_part` says.
-fn words_after(
-    option: &str,
-    value: Option<OsString>,
-    given: &mut Peekable<impl Iterator<Item = OsString>>,
-    is_part: impl Fn(&str) -> bool,
-) -> Result<Vec<String>, String> {
-    let due = || format!("{option}: a value is due after it, such as {}", such_as(option));
-    let first = value_after(value, given).filter(|word| !is_option(&word.to_string_lossy()));
-    let first = first.ok_or_else(due)?;
-    let mut words = vec![first.display().to_string()];
-    while let Some(word) = given.next_if(|word| is_part(&word.to_string_lossy())) {
-        words.push(word.display().to_string());
-    }
-    Ok(words)
-}
-
-/// The numbers after an option, among all words of the command line.
-fn list_after(
-    option: &'static str,
-    value: Option<OsString>,
-    given: &mut Peekable<impl ExactSizeIterator<Item = OsString>>,
-    all: &[OsString],
-) -> Result<Vec<u32>, String> {
-    let from = all.len() - given.len() - 1;
-    let list = words_after(option, value, given, |word| is_part(word, option))?;
-    let places = (from..all.len() - given.len()).collect();
-    Words { given: all, places, option, list }.read()
 }
 
 /// What is wrong with a value behind an option that takes none.
@@ -266,20 +192,18 @@ impl Arguments {
     fn task(self) -> Result<Task, String> {
         let (name, files) = self.words.split_first().ok_or("a command is due")?;
         let name: &str = &name.to_string_lossy();
-        let (file, asked) = match ["help", "version"].contains(&name) {
-            true => (None, None),
+        let file = match ["help", "version"].contains(&name) {
+            true => None,
             false => {
                 let command = table::command(name).ok_or_else(|| self.unknown_command(name))?;
-                let of_file = if name == "reach" { files.len().min(1) } else { files.len() };
-                let file = self.file(command, &files[..of_file])?;
+                let file = self.file(command, files)?;
                 self.check(command, file)?;
-                (file, self.asked(name)?)
+                file
             }
         };
         Ok(Task {
             command: name.to_string(),
             file: file.cloned(),
-            asked,
             format: self.format()?,
             units: if self.has("--kpa") { Units::Kilo } else { Units::Whole },
             depth: self.depth,
@@ -289,49 +213,6 @@ impl Arguments {
             output: self.output.filter(|output| output != "-"),
             given: self.given,
         })
-    }
-
-    /// How deep the wall carries, as the command and its options ask.
-    fn asked(&self, name: &str) -> Result<Option<Asked>, String> {
-        let pressures = match name {
-            "reach" => self.behind_file()?,
-            _ => self.pressures.clone(),
-        };
-        let plates = self.plates.clone();
-        let asked = match (pressures, plates, self.stress) {
-            (Some(_), Some(_), _) => Err("pressures and --plate: one of the two".to_string()),
-            (_, None, Some(_)) => Err(beside("--stress", "--plate")),
-            (_, Some(_), None) => Err(beside("--plate", "--stress")),
-            (Some(pressures), None, None) => Ok(Some(Asked::Pressures(pressures))),
-            (None, Some(thicknesses), Some(stress)) => {
-                Ok(Some(Asked::Plates { thicknesses, stress }))
-            }
-            (None, None, None) => Ok(None),
-        }?;
-        match asked.is_some() && self.depth.is_some() {
-            true => Err("--depth and --reach or --plate: one of the two".to_string()),
-            false => Ok(asked),
-        }
-    }
-
-    /// The pressures behind the file of `reach`, Pa.
-    fn behind_file(&self) -> Result<Option<Vec<u32>>, String> {
-        if let Some(due) = self.file_first() {
-            return Err(format!("reach: {due}"));
-        }
-        let [_, file, list @ ..] = &self.words[..] else { return Ok(None) };
-        if list.is_empty() && self.plates.is_none() && self.stress.is_none() {
-            let due = "a pressure is due behind the file, or --plate and --stress";
-            let whole =
-                hint::command_line(&[&self.given[..], &["30".into(), "kPa".into()]].concat());
-            return Err(format!("reach {}: {due}, such as {whole}", file.display()));
-        }
-        if list.is_empty() {
-            return Ok(None);
-        }
-        let list = list.iter().map(|word| word.display().to_string()).collect();
-        let places = self.places[2..].to_vec();
-        Words { given: &self.given, places, option: "", list }.read().map(Some)
     }
 
     fn unknown_command(&self, name: &str) -> String {

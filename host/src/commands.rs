@@ -7,7 +7,6 @@ use crate::files::Kind;
 use crate::library::{self, Loads, Refusal, ShellPatch};
 use crate::message;
 use crate::patch::Patch;
-use crate::reach::{Asked, Reach};
 use crate::report::PROGRAM;
 use crate::source::{self, Failure, Source, Unread};
 use crate::units::Units;
@@ -45,19 +44,14 @@ pub enum Format {
     Json,
 }
 
-/// The kind of file that a command's output is; of a drawing with a depth, of the patch there, and of one that is asked how deep a wall
-/// carries, of that.
-pub fn kind(command: &str, format: Format, depth: Option<u32>, asked: Option<&Asked>) -> Kind {
+/// The kind of file that a command's output is; with a depth, of the patch there.
+pub fn kind(command: &str, format: Format, depth: Option<u32>) -> Kind {
     match (command, format) {
         ("draw", _) if depth.is_some() => Kind::PatchDrawing,
-        ("draw", _) if asked.is_some() => Kind::ReachDrawing,
         ("draw", _) => Kind::Drawing,
         ("patch", Format::Csv | Format::CsvSemicolon) => Kind::PatchCsv,
         ("patch", Format::Json) => Kind::PatchJson,
         ("patch", _) => Kind::Patch,
-        ("reach", Format::Csv | Format::CsvSemicolon) => Kind::ReachCsv,
-        ("reach", Format::Json) => Kind::ReachJson,
-        ("reach", _) => Kind::Reach,
         ("sheet", _) => Kind::Sheet,
         ("page", _) => Kind::Page,
         ("explain", _) => Kind::Text,
@@ -244,55 +238,12 @@ pub fn explain(file: &str, bytes: &[u8]) -> Outcome {
 
 pub fn draw(file: &str, bytes: &[u8], units: Units) -> Outcome {
     let drawn = calculated(bytes).and_then(|(source, loads)| {
-        let curves = curves(&source, &[])?;
+        let silo = with_more_depths(&source.silo);
+        let curves = Loads::of(&silo.to_bytes(), silo.strakes.len());
+        let curves = curves.map_err(|refusal: Refusal| source.refused(refusal))?;
         Ok(told(file, &source, draw::page(&source.report(file, units)?, &loads, &curves)))
     });
     drawn.unwrap_or_else(|failure| failed(file, &failure))
-}
-
-/// How deep the wall of a file's silo carries what is asked, as `say` writes it.
-fn reached(
-    file: &str,
-    bytes: &[u8],
-    asked: &Asked,
-    units: Units,
-    say: impl Fn(&Source, &Reach) -> Result<String, Failure>,
-) -> Result<Outcome, Failure> {
-    let source = source::open(bytes)?;
-    let refused = |refusal| source.refused(refusal);
-    library::verdict(&source.sheet).map_err(refused)?;
-    let pressures = asked.pressures(&source.silo).ok_or_else(|| source.plates_refused())?;
-    let depths = library::depths_for(&source.sheet, &pressures).map_err(refused)?;
-    let reach = Reach::of(source.report(file, units)?, asked, &pressures, &depths);
-    Ok(told(file, &source, say(&source, &reach)?))
-}
-
-/// The depths for pressures or plates.
-pub fn reach(file: &str, bytes: &[u8], asked: &Asked, format: Format, units: Units) -> Outcome {
-    let said = reached(file, bytes, asked, units, |_, reach| {
-        Ok(match format {
-            Format::Table => table::reach(reach),
-            Format::Csv => csv::reach(reach, csv::COMMA),
-            Format::CsvSemicolon => csv::reach(reach, csv::SEMICOLON),
-            Format::Json => json::reach(reach),
-        })
-    });
-    said.unwrap_or_else(|failure| failed_in(format, file, &failure))
-}
-
-pub fn draw_reach(file: &str, bytes: &[u8], asked: &Asked, units: Units) -> Outcome {
-    let drawn = reached(file, bytes, asked, units, |source, reach| {
-        let depths: Vec<u32> = reach.marks.iter().map(|mark| mark.depth).collect();
-        Ok(draw::reach(reach, &curves(source, &depths)?))
-    });
-    drawn.unwrap_or_else(|failure| failed(file, &failure))
-}
-
-/// The loads for curves, also at the given depths, at most as many as there are pressures to a question.
-fn curves(source: &Source, depths: &[u32]) -> Result<Loads, Failure> {
-    let silo = with_more_depths(&source.silo, depths);
-    let curves = Loads::of(&silo.to_bytes(), silo.strakes.len());
-    curves.map_err(|refusal: Refusal| source.refused(refusal))
 }
 
 /// The patch of a file's silo, `depth` mm below the brim, as `say` writes it.
@@ -332,14 +283,14 @@ pub fn draw_patch(file: &str, bytes: &[u8], depth: u32, units: Units) -> Outcome
     drawn.unwrap_or_else(|failure| failed(file, &failure))
 }
 
-/// The same silo with depths for curves: those given, the strakes' edges, the grain's surface and even steps, at most 200.
-fn with_more_depths(silo: &Description, given: &[u32]) -> Description {
-    let count = 160 - given.len() as u64;
+/// The same silo with depths for curves: the strakes' edges, the grain's surface and even steps, at most 200.
+fn with_more_depths(silo: &Description) -> Description {
+    const STEPS: u64 = 160;
     let wall = silo.wall_height();
-    let steps = (0..=count).map(|i| wall * i / count);
+    let steps = (0..=STEPS).map(|i| wall * i / STEPS);
     let edges = silo.edges().map(|(_, edge)| edge);
     let depths = steps.chain(edges).chain([silo.headroom.into()]);
-    let mut depths: Vec<u32> = depths.map(|z| z as u32).chain(given.iter().copied()).collect();
+    let mut depths: Vec<u32> = depths.map(|z| z as u32).collect();
     depths.sort_unstable();
     depths.dedup();
     Description { depths, ..silo.clone() }

@@ -1,12 +1,8 @@
 //! The loads as separated values: rows of the silo's description, one header, a row for each depth, for the floor or each quarter of
 //! the hopper's slope, for each strake's lower edge, and the notes. The patch of a circle likewise, with a row for each degree and for
-//! the force, or for each square; the depths for pressures are in `reach`. Every row of a page has as many cells. The last is the check row:
-//! a number made of all bytes before it.
+//! the force, or for each square. Every row of a page has as many cells. The last is the check row: a number made of all bytes before it.
 
 mod made;
-mod reach;
-
-pub use reach::reach;
 
 use crate::capacity;
 use crate::crc::crc32;
@@ -190,11 +186,6 @@ const PATCH_HEADS: [&str; 2] = ["p_ps (", "p_p outward ("];
 /// A page's header is that of a patch.
 pub fn has_patch(page: &str) -> bool {
     PATCH_HEADS.iter().any(|head| page.contains(head))
-}
-
-/// A page's header is that of depths for pressures.
-pub fn has_reach(page: &str) -> bool {
-    page.contains(reach::HEAD)
 }
 
 /// The patch of a circle: rows of its description, one header, a row for every degree that is listed and the force, or a row for each

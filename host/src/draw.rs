@@ -8,7 +8,6 @@ mod chart;
 mod hopper;
 mod layout;
 mod made;
-mod reach;
 mod shell;
 mod shown;
 mod silo;
@@ -20,7 +19,6 @@ mod wrap;
 use crate::description::{Description, Section};
 use crate::library::Loads;
 use crate::patch::Patch;
-use crate::reach::Reach;
 use crate::report::{Report, BLANK_ANGLE};
 use layout::{Layout, LEFT, TABLE, TOP};
 use shown::{degrees, length};
@@ -64,24 +62,6 @@ pub fn patch(patch: &Patch) -> String {
     silo::headroom(&mut svg, report.silo, &layout);
     shell::plan(&mut svg, patch, top, lowest);
     svg.page(&name(report), report.file, shell::STYLE)
-}
-
-/// The depths for pressures or plates; `curves` have them among their depths.
-pub fn reach(reach: &Reach, curves: &Loads) -> String {
-    let report = &reach.report;
-    let mut svg = Svg::default();
-    let brim = title(&mut svg, report, TABLE.1) + HEADS;
-    let lowest = block::draw(&mut svg, report, reach.all_notes()) - 10.0;
-    let layout = Layout::beside(report.silo, layout::SILO, brim, lowest);
-    silo::draw(&mut svg, report.silo, &layout);
-    let heights = reach::across(&mut svg, reach, &layout);
-    silo::numbers(&mut svg, report.silo, &layout, &heights);
-    silo::numbers_beside(&mut svg, report.silo, &layout, &heights);
-    reach::rows(&mut svg, reach, &layout, lowest);
-    silo::headroom(&mut svg, report.silo, &layout);
-    chart::draw(&mut svg, report, &layout, curves);
-    chart::marks(&mut svg, &layout, curves, &reach.marks);
-    svg.page(&name(report), report.file, reach::STYLE)
 }
 
 /// The file's name without its ending.

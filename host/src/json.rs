@@ -1,12 +1,10 @@
-//! The loads, the patch and the depths for pressures as JSON.
+//! The loads and the patch as JSON.
 
 mod made;
 mod patch;
-mod reach;
 
 pub use made::made_with;
 pub use patch::patch;
-pub use reach::reach;
 
 use crate::description::Section;
 use crate::doubt::Doubt;

@@ -18,7 +18,6 @@ pub mod name;
 pub mod number;
 pub mod patch;
 pub mod place;
-pub mod reach;
 pub mod report;
 pub mod strake;
 pub mod text;

@@ -1,11 +1,11 @@
-//! The proved library's nine functions behind safe Rust: slices in, results out.
+//! The proved library's seven functions behind safe Rust: slices in, results out.
 
 /// Why a call was refused: the number that the library answers.
 #[derive(Clone, Copy, Debug, PartialEq, Eq)]
 pub struct Refusal(pub u32);
 
 /// What refusals 1, 2, .. mean.
-const MEANINGS: [&str; 22] = [
+const MEANINGS: [&str; 20] = [
     "the sheet is over 1024 bytes",
     "a record is cut short",
     "a record's kind is not the one due",
@@ -29,8 +29,6 @@ const MEANINGS: [&str; 22] = [
     "the section is a rectangle; the patch goes round the shell of a circle",
     "the sides are too unequal: the longer is over three times the shorter; such a sheet can be kept and measured, but not \
      calculated",
-    "the pressure list is empty, has over 32 pressures, or falls",
-    "the depth list is not as long as the pressure list",
 ];
 
 impl Refusal {
@@ -53,8 +51,6 @@ impl Refusal {
     pub const PAGE_LENGTH: Refusal = Refusal(18);
     pub const RECTANGLE: Refusal = Refusal(19);
     pub const UNEQUAL_SIDES: Refusal = Refusal(20);
-    pub const PRESSURES: Refusal = Refusal(21);
-    pub const DEPTHS_LENGTH: Refusal = Refusal(22);
 
     pub fn meaning(self) -> &'static str {
         let place = (self.0 as usize).wrapping_sub(1);
@@ -67,19 +63,14 @@ impl Refusal {
     }
 }
 
-/// A length or a depth comes back with this added.
-const MARK: u64 = 1 << 32;
-
-/// Without its mark; the library marks no number over `u32::MAX`.
-fn unmarked(answer: u64) -> Result<u32, Refusal> {
-    match answer.checked_sub(MARK) {
-        Some(number) => Ok(number as u32),
-        None => Err(Refusal(answer as u32)),
-    }
-}
+/// A length comes back with this added.
+const LENGTH_MARK: u64 = 1 << 32;
 
 fn length(answer: u64) -> Result<usize, Refusal> {
-    unmarked(answer).map(|length| length as usize)
+    match answer.checked_sub(LENGTH_MARK) {
+        Some(length) => Ok(length as usize),
+        None => Err(Refusal(answer as u32)),
+    }
 }
 
 /// The length of the answer list that is due for a sheet, in numbers. It is told for sides that are too unequal for loads as well.
@@ -141,32 +132,6 @@ pub fn fill_shell_patch(sheet: &[u8], depth: u32, reply: &mut [i32]) -> Result<(
     let (lent, length) = (reply.as_mut_ptr(), reply.len());
     // SAFETY: each pointer comes with its own slice's length; `reply` is borrowed mutably, so it overlaps nothing.
     done(unsafe { silo_sys::silo_shell_patch(sheet.as_ptr(), sheet.len(), depth, lent, length) })
-}
-
-/// The greatest depth, mm below the brim, at which p_he is not above a pressure, Pa.
-pub fn depth_for(sheet: &[u8], pressure: u32) -> Result<u32, Refusal> {
-    // SAFETY: the pointer and the length are those of one slice, which the call only reads.
-    unmarked(unsafe { silo_sys::silo_depth_for(sheet.as_ptr(), sheet.len(), pressure) })
-}
-
-/// Most pressures of one question.
-pub const MOST_PRESSURES: usize = 32;
-
-/// Fills the depths for pressures that never fall; on refusal the list is as it was.
-pub fn fill_depths(sheet: &[u8], pressures: &[u32], depths: &mut [u32]) -> Result<(), Refusal> {
-    let (asked, count) = (pressures.as_ptr(), pressures.len());
-    let (lent, length) = (depths.as_mut_ptr(), depths.len());
-    // SAFETY: each pointer comes with its own slice's length; `depths` is borrowed mutably, so it overlaps nothing.
-    done(unsafe {
-        silo_sys::silo_depths_for(sheet.as_ptr(), sheet.len(), asked, count, lent, length)
-    })
-}
-
-/// The depth for each pressure.
-pub fn depths_for(sheet: &[u8], pressures: &[u32]) -> Result<Vec<u32>, Refusal> {
-    let mut depths = vec![0; pressures.len()];
-    fill_depths(sheet, pressures, &mut depths)?;
-    Ok(depths)
 }
 
 /// Writes the product record of a row of table 7.1; wall 0 is steel and wall 1 concrete. On refusal the buffer is as it was.

@@ -81,25 +81,23 @@ impl Task {
 
     fn outcome(&self, name: &str, bytes: &[u8]) -> Outcome {
         let (format, units) = (self.format, self.units);
-        match (self.command.as_str(), self.depth, &self.asked) {
-            ("loads", ..) => commands::loads(name, bytes, format, units),
-            ("check", ..) => commands::check(name, bytes, format),
-            ("page", ..) => commands::page(name, bytes),
-            ("patch", Some(depth), _) => {
+        match (self.command.as_str(), self.depth) {
+            ("loads", _) => commands::loads(name, bytes, format, units),
+            ("check", _) => commands::check(name, bytes, format),
+            ("page", _) => commands::page(name, bytes),
+            ("patch", Some(depth)) => {
                 commands::patch(name, bytes, (depth, self.step), format, units)
             }
-            ("reach", _, Some(asked)) => commands::reach(name, bytes, asked, format, units),
-            ("draw", Some(depth), _) => commands::draw_patch(name, bytes, depth, units),
-            ("draw", _, Some(asked)) => commands::draw_reach(name, bytes, asked, units),
-            ("draw", ..) => commands::draw(name, bytes, units),
-            ("sheet", ..) => commands::sheet(name, bytes),
+            ("draw", Some(depth)) => commands::draw_patch(name, bytes, depth, units),
+            ("draw", None) => commands::draw(name, bytes, units),
+            ("sheet", _) => commands::sheet(name, bytes),
             _ => commands::explain(name, bytes),
         }
     }
 
     /// The file to write.
     fn target<'a>(&'a self, input: Option<&'a Input>) -> Result<Option<Target<'a>>, String> {
-        let kind = commands::kind(&self.command, self.format, self.depth, self.asked.as_ref());
+        let kind = commands::kind(&self.command, self.format, self.depth);
         let judged = |output| Target::of(output, kind, input, self.force);
         self.output.as_deref().map(judged).transpose()
     }

@@ -39,8 +39,6 @@ pub enum Reading {
     /// The lower and the upper ratio: careful for the floor, and for the wall.
     ForFloor,
     ForWall,
-    /// The plate or the stress below, which carries less.
-    Weaker,
     /// An angle from the vertical, turned into one from the horizontal.
     Vertical,
     /// A hopper of that angle, in ten-thousandths of a degree.

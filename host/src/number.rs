@@ -111,12 +111,6 @@ pub enum Quantity {
     Ratio,
     Friction,
     Factor,
-    /// Of p_he; a part of a Pa is dropped.
-    Pressure,
-    /// A plate's thickness; the less, the less it carries.
-    Plate,
-    /// Of a plate; the less, the less it carries.
-    Stress,
 }
 
 impl Quantity {
@@ -242,33 +236,6 @@ pub const FRICTION: Measure =
     Measure { quantity: Quantity::Friction, limits: (10, 100), instead: Instead::Angle, ..RATIO };
 pub const FACTOR: Measure = Measure { quantity: Quantity::Factor, limits: (100, 200), ..RATIO };
 
-pub const PRESSURE: Measure = Measure {
-    quantity: Quantity::Pressure,
-    units: &[("Pa", 0), ("kPa", 3), ("N/m2", 0), ("kN/m2", 3)],
-    most: u32::MAX as u64,
-    limits: (0, u32::MAX as u64),
-    show: pascals,
-    instead: Instead::Nothing,
-};
-/// Tenths of a mm.
-pub const PLATE: Measure = Measure {
-    quantity: Quantity::Plate,
-    units: &[("mm", 1)],
-    most: 1_000,
-    limits: (1, 1_000),
-    show: plate,
-    instead: Instead::Nothing,
-};
-/// N/mm2, which need not be written.
-pub const STRESS: Measure = Measure {
-    quantity: Quantity::Stress,
-    units: &[("", 0), ("N/mm2", 0), ("MPa", 0)],
-    most: 500,
-    limits: (50, 500),
-    show: stress,
-    instead: Instead::Nothing,
-};
-
 /// Digits in groups of three: 23,456.
 pub fn in_threes(digits: &str, separator: char) -> String {
     let mut text = String::new();
@@ -290,34 +257,19 @@ fn thousands(number: &str) -> Option<u64> {
 
 /// A unit as the tables have it.
 fn plain_unit(unit: &str) -> String {
-    let unit = unit.replace('³', "3").replace('²', "2").replace('^', "");
+    let unit = unit.replace('³', "3").replace('^', "");
     let unit = unit.trim_end_matches('.').to_string();
     match unit.to_lowercase().trim_end_matches('s') {
         "millimetre" | "millimeter" | "millimètre" => "mm".to_string(),
         "centimetre" | "centimeter" | "centimètre" => "cm".to_string(),
         "metre" | "meter" | "mètre" | "mtr" => "m".to_string(),
         "degré" | "degre" => "deg".to_string(),
-        "pascal" => "Pa".to_string(),
-        "kilopascal" => "kPa".to_string(),
         _ => unit,
     }
 }
 
 pub fn millimetres(number: u64) -> String {
     format!("{number} mm")
-}
-
-pub fn pascals(number: u64) -> String {
-    format!("{number} Pa")
-}
-
-/// Tenths of a mm.
-pub fn plate(number: u64) -> String {
-    format!("{} mm", tenths(number))
-}
-
-pub fn stress(number: u64) -> String {
-    format!("{number} N/mm2")
 }
 
 pub fn newtons(number: u64) -> String {
@@ -401,16 +353,11 @@ impl Measure {
     }
 
     pub fn is_unit(&self, word: &str) -> bool {
-        self.power_of(&plain_unit(word)).is_some()
+        self.power_of(word).is_some()
     }
 
     fn has_unit(&self) -> bool {
-        !self.written_units().is_empty()
-    }
-
-    /// All but the one that is left out.
-    fn written_units(&self) -> Vec<&'static str> {
-        self.units.iter().map(|(unit, _)| *unit).filter(|unit| !unit.is_empty()).collect()
+        self.units.iter().any(|(unit, _)| !unit.is_empty())
     }
 
     /// A decimal with each unit in which it is inside the limits, and a weight that of a grain. Of spellings the first; of strakes and of
@@ -443,7 +390,7 @@ impl Measure {
     }
 
     /// The numbers on both sides of one that is too fine, each with what it is careful for; of a weight, a factor or an eccentricity the upper,
-    /// of a headroom, a plate or a stress the lower.
+    /// of a headroom the lower.
     fn beside(&self, below: u64) -> Vec<Mend> {
         let above = below.saturating_add(1);
         let careful = |lower: Reading, upper: Reading| {
@@ -456,10 +403,6 @@ impl Measure {
         match self.quantity {
             Quantity::Weight | Quantity::Factor | Quantity::Eccentricity => self.mends([above]),
             Quantity::Headroom => self.mends([below]),
-            Quantity::Plate | Quantity::Stress => {
-                let below = self.mends([below]).into_iter();
-                below.map(|mend| mend.read_as(Reading::Weaker)).collect()
-            }
             Quantity::Friction => careful(Reading::ForPush, Reading::ForDrag),
             Quantity::Ratio => careful(Reading::ForFloor, Reading::ForWall),
             _ => self.mends([below, above]),
@@ -499,13 +442,12 @@ impl Measure {
     /// The power of ten for a written unit; a number other than 0 needs one where there are any.
     pub fn power(&self, decimal: Decimal, number: &str, unit: Option<&str>) -> Result<u32, Slip> {
         let Some(written) = unit else {
-            let bare = self.power_of("").or(Some(self.units[0].1).filter(|_| decimal.digits == 0));
-            if let Some(power) = bare {
-                return Ok(power);
+            if !self.has_unit() || decimal.digits == 0 {
+                return Ok(self.units[0].1);
             }
             let mends = self.with_units(decimal, number);
             let mass = self.as_mass(decimal, number).filter(|_| mends.is_empty());
-            let all = self.written_units();
+            let all = self.units.iter().map(|(unit, _)| *unit).collect();
             return Err(mass.unwrap_or_else(|| Slip::new(Number::NoUnit(all)).with(mends)));
         };
         if !self.has_unit() {
@@ -515,7 +457,7 @@ impl Measure {
             return Err(Slip::new(Number::HasNoUnit(self.quantity)).with(mends));
         }
         self.power_of(&plain_unit(written)).ok_or_else(|| {
-            let units = self.written_units();
+            let units = self.units.iter().map(|(unit, _)| *unit).collect();
             let (unit, quantity) = (written.to_string(), self.quantity);
             Slip::new(Number::UnknownUnit { unit, quantity, units })
         })
@@ -527,38 +469,16 @@ impl Measure {
             let mends = self.mends([thousands / 1000, thousands]);
             return Err(Slip::new(Number::InThousands).with(mends));
         }
-        match decimal.whole(power, self.most) {
-            Ok(whole) => Ok(whole),
-            // p_he is whole, so that what is between two Pa is not above it where the lower is not
-            Err(Misfit::Finer(below)) if self.quantity == Quantity::Pressure => {
-                Some(below).filter(|below| *below <= self.most).ok_or_else(|| self.too_large())
+        decimal.whole(power, self.most).map_err(|misfit| match misfit {
+            Misfit::Finer(below) => {
+                let is_lighter = self.quantity == Quantity::Headroom;
+                let meant = self.unit_for(decimal).filter(|_| !is_lighter);
+                let meant = meant.map(|unit| format!("{number} {unit}"));
+                let mut mends = self.beside(below);
+                mends.extend(meant.map(Mend::plain));
+                Slip::new(Number::Finer).with(mends)
             }
-            Err(Misfit::Finer(below)) => Err(self.finer(decimal, below, number)),
-            Err(Misfit::TooLarge) => Err(self.too_large()),
-        }
-    }
-
-    /// The numbers beside one that is finer, and the number in another unit.
-    fn finer(&self, decimal: Decimal, below: u64, number: &str) -> Slip {
-        let is_lighter = self.quantity == Quantity::Headroom;
-        let meant = self.unit_for(decimal).filter(|_| !is_lighter);
-        let meant = meant.map(|unit| format!("{number} {unit}"));
-        let mut mends = self.beside(below);
-        mends.extend(meant.map(Mend::plain));
-        let slip = match self.quantity {
-            Quantity::Plate | Quantity::Stress => Number::FinerThan((self.show)(1)),
-            _ => Number::Finer,
-        };
-        Slip::new(slip).with(mends)
-    }
-
-    fn too_large(&self) -> Slip {
-        let most = (self.show)(self.most);
-        Slip::new(match self.quantity {
-            Quantity::Pressure | Quantity::Plate | Quantity::Stress => {
-                Number::NotAsked(self.quantity, most)
-            }
-            _ => Number::TooLarge(most),
+            Misfit::TooLarge => Slip::new(Number::TooLarge((self.show)(self.most))),
         })
     }
 

@@ -5,10 +5,9 @@ use crate::content::{self, Content};
 use crate::description::{Description, Section};
 use crate::doubt::{self, Doubt};
 use crate::library::Refusal;
-use crate::message::{words, Bytes, Limit, Message, Slip};
-use crate::name::Name;
+use crate::message::{words, Bytes, Message, Slip};
 use crate::number::millimetres;
-use crate::place::{self, Field, Place};
+use crate::place::{self, Place};
 use crate::report::{Labels, Report, Said, PROGRAM};
 use crate::text::{self, Text};
 use crate::units::Units;
@@ -28,7 +27,7 @@ pub enum Failure {
     Refused(Refused),
 }
 
-/// What is wrong with a file or a text that cannot be read, or with a question about it, and how many messages more there are.
+/// What is wrong with a file or a text that cannot be read, and how many messages more there are.
 pub struct Unread {
     meaning: &'static str,
     messages: Vec<Message>,
@@ -135,13 +134,6 @@ impl Source {
         let section = place::rectangle(&self.silo);
         let section = section.map(|place| (Refusal::RECTANGLE, self.message(place)));
         self.refused_among(refusal, given.into_iter().chain(section).collect())
-    }
-
-    /// Plates are asked for, whose rule is that of a circle; the library, which is asked for pressures, refuses no rectangle.
-    pub fn plates_refused(&self) -> Failure {
-        let place = Place { field: Field::Line(Name::Sides), slip: Slip::new(Limit::Plates) };
-        let meaning = words::NO_CIRCLE;
-        Failure::Unread(Unread { meaning, messages: vec![self.message(place)], more: 0 })
     }
 
     /// `own` are limits that the call has beyond those of the sheet, each broken and with its refusal.

@@ -1,9 +1,6 @@
 //! The loads as tables that a person reads, at most 80 characters wide.
 
 mod made;
-mod reach;
-
-pub use reach::reach;
 
 use crate::basis::{self, Made};
 use crate::capacity::{self, Capacity};
@@ -30,7 +27,10 @@ const WIDEST: usize = 80;
 const INDENT: &str = "  ";
 
 pub fn page(report: &Report, loads: &Loads) -> String {
-    let begins = begins(report);
+    let begins = match report.silo.headroom {
+        0 => String::new(),
+        headroom => format!("; the grain begins at {headroom} mm"),
+    };
     let mut page =
         format!("{}\nLoads on the wall at depth z below the brim{begins}\n", heading(report));
     let columns = report.columns();
@@ -48,14 +48,6 @@ pub fn page(report: &Report, loads: &Loads) -> String {
     page += &notes(&report.notes());
     page += &checked(report, loads);
     format!("{page}\n{PROGRAM}\n")
-}
-
-/// Where the grain does, below the brim.
-fn begins(report: &Report) -> String {
-    match report.silo.headroom {
-        0 => String::new(),
-        headroom => format!("; the grain begins at {headroom} mm"),
-    }
 }
 
 /// Below the heads of columns: each load's equation, the Ks and mu with which it is made, and by which equation it has those.

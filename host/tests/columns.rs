@@ -5,9 +5,7 @@ mod common;
 
 use common::{root, text_with, FLAT, HEAVIEST};
 use silo::description::Description;
-use silo::library::{
-    self, Loads, BOTTOM, MOST_PRESSURES, P_HE, P_HF, P_P, P_VF, P_W, P_WE, P_WF, ROW, Z,
-};
+use silo::library::{self, Loads, BOTTOM, P_HE, P_HF, P_P, P_VF, P_W, P_WE, P_WF, ROW, Z};
 use silo::text;
 
 type Changes = &'static [(&'static str, &'static str)];
@@ -87,8 +85,6 @@ fn the_header_is_the_one_that_is_wrapped() {
     let [major, minor] =
         ["MAJOR", "MINOR"].map(|number| between(&format!("#define SILO_VERSION_{number} "), "\n"));
     assert!(manifest.contains(&format!("\nversion = \"{major}.{minor}.")), "{major}.{minor}");
-    let most = between("#define SILO_PRESSURES_MOST ", "\n");
-    assert_eq!(most, MOST_PRESSURES.to_string());
     let names: Vec<String> = between("enum silo_column {", "}")
         .split(',')
         .map(|name| name.trim().replacen("SILO_", "", 1))

@@ -10,7 +10,7 @@ use std::fs;
 use std::os::unix::ffi::OsStrExt;
 
 /// Command lines that end with status 2, in a folder with tower.silo, `my tower.silo`, Bin.sheet and a folder barn beside barn.silo.
-const SLIPS: [&[&str]; 58] = [
+const SLIPS: [&[&str]; 47] = [
     &["tower.silo"],
     &["tower.silo", "--csv", "-o", "tower.csv"],
     &["--kpa", "tower.silo"],
@@ -58,17 +58,6 @@ const SLIPS: [&[&str]; 58] = [
     &["patch", "tower.silo", "--depth="],
     &["patch", "tower.silo", "--depth=8"],
     &["patch", "tower.silo", "--depth=8m", "--depth=9m"],
-    &["tower.silo", "30", "kPa"],
-    &["tower.silo", "--plate", "3", "mm", "--stress", "235"],
-    &["tower.silo", "--reach", "30", "kPa", "-o", "reach.svg"],
-    &["reach", "tower.silo"],
-    &["reach", "30", "kPa"],
-    &["reach", "30", "kPa", "my tower.silo", "--csv"],
-    &["reach", "tower.silo", "40", "kPa", "30.5", "kPa", "--json"],
-    &["reach", "tower.silo", "--plate=4mm", "3mm", "--stress=235"],
-    &["draw", "tower.silo", "--reach=40kPa", "30", "kPa", "-o", "reach.svg"],
-    &["reach", "my tower.silo", "1, 2, 3, 4, 5, 6, 7, 8, 9, 10, 11, 12, 13, 14, 15, 16, 17, 18, 19, 20, 21, 22, 23, 24, 25, 26, 27, 28, 29, 30, 31, 32, 33 kPa"],
-    &["reach", "tower", "30", "kPa"],
 ];
 
 #[test]

@@ -77,10 +77,8 @@ fn nothing_is_printed_into_the_file_that_is_read() {
     assert!(folder.get("log").starts_with(b"before\nw.silo\n"));
 }
 
-const DEPTHS: &str = "a table of depths for pressures";
-
 /// A command, the ending of what it writes, what that is, in a word, and whether the tool replaces one.
-const WRITTEN: [(&[&str], &str, &str, &str, bool); 23] = [
+const WRITTEN: [(&[&str], &str, &str, &str, bool); 18] = [
     (&["draw", "w.silo"], "svg", "a drawing", "drawing", true),
     (&["draw", "w.silo", "--kpa"], "svg", "a drawing", "drawing", true),
     (&["sheet", "w.silo"], "sheet", "a sheet", "sheet", true),
@@ -102,17 +100,6 @@ const WRITTEN: [(&[&str], &str, &str, &str, bool); 23] = [
         true,
     ),
     (&["draw", "w.silo", "--depth", "8 m"], "svg", "a drawing of a patch", "drawing", true),
-    (&["reach", "w.silo", "30 kPa"], "txt", DEPTHS, "table", true),
-    (&["reach", "w.silo", "--plate=3mm", "--stress=235", "--kpa"], "txt", DEPTHS, "table", true),
-    (&["reach", "w.silo", "0", "--csv"], "csv", "CSV of depths for pressures", "CSV", true),
-    (&["reach", "w.silo", "0", "--json"], "json", "JSON of depths for pressures", "JSON", true),
-    (
-        &["draw", "w.silo", "--reach", "30 kPa"],
-        "svg",
-        "a drawing of depths for pressures",
-        "drawing",
-        true,
-    ),
     (&["catalogue"], "txt", "the catalogue", "catalogue", true),
     (&["catalogue", "--csv-semicolon"], "csv", "the catalogue's CSV", "CSV", true),
     (&["catalogue", "--json"], "json", "the catalogue's JSON", "JSON", true),
@@ -172,7 +159,6 @@ const PAGE_HEADING: &[u8; 72] =
 fn contents(folder: &Folder) -> Vec<(&'static str, Vec<u8>)> {
     let of = |command: &str, more: &[&str]| folder.prints(&[&[command, "w.silo"], more].concat());
     let patch = |more: &[&str]| of("patch", &[&["--depth", "8 m"], more].concat());
-    let reach = |more: &[&str]| of("reach", &[&["30 kPa"], more].concat());
     let other = "something other than ";
     vec![
         ("a drawing", of("draw", &["-o", "-"])),
@@ -192,10 +178,6 @@ fn contents(folder: &Folder) -> Vec<(&'static str, Vec<u8>)> {
         ("CSV of a patch", patch(&["--csv"])),
         ("JSON of a patch", patch(&["--json"])),
         ("a drawing of a patch", of("draw", &["--depth", "0", "-o", "-"])),
-        (DEPTHS, reach(&[])),
-        ("CSV of depths for pressures", reach(&["--csv"])),
-        ("JSON of depths for pressures", reach(&["--json"])),
-        ("a drawing of depths for pressures", of("draw", &["--reach", "0", "-o", "-"])),
         ("a silo's text", sample("wheat-tower.silo")),
         ("a silo's text", b"# mine\r\nD_x = 1\r\n Diameter=4 m\r\n".to_vec()),
         (other, b"<svg><text>our mark</text></svg>".to_vec()),
@@ -213,13 +195,11 @@ fn contents(folder: &Folder) -> Vec<(&'static str, Vec<u8>)> {
     ]
 }
 
-const NAMES_A_SILO: [&str; 3] = [" of loads", " of a patch", " of depths for pressures"];
-
 /// The silo that a file of `contents` names.
 fn silo_in(found: &str) -> &str {
     match found {
         "a drawing" => " of w.silo",
-        _ if NAMES_A_SILO.iter().any(|end| found.ends_with(end)) => " of w.silo",
+        _ if found.ends_with(" of loads") || found.ends_with(" of a patch") => " of w.silo",
         _ => "",
     }
 }

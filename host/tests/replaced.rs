@@ -12,7 +12,7 @@ use std::process::Output;
 const ANOTHER: &str = "; choose another name, or --force replaces it\n";
 
 /// Outputs that name their silo: the command, the file to write, and what it is.
-const NAMED: [(&[&str], &str, &str); 15] = [
+const NAMED: [(&[&str], &str, &str); 10] = [
     (&["loads"], "out.txt", "a table of loads"),
     (&["loads", "--csv"], "out.csv", "CSV of loads"),
     (&["loads", "--csv-semicolon", "--kpa"], "out.csv", "CSV of loads"),
@@ -21,19 +21,6 @@ const NAMED: [(&[&str], &str, &str); 15] = [
     (&["patch", "--depth", "8 m", "--csv"], "out.csv", "CSV of a patch"),
     (&["patch", "--depth", "8 m", "--csv-semicolon"], "out.csv", "CSV of a patch"),
     (&["patch", "--depth", "8 m", "--json"], "out.json", "JSON of a patch"),
-    (
-        &["reach", "--plate", "3 mm", "--stress", "235"],
-        "out.txt",
-        "a table of depths for pressures",
-    ),
-    (&["reach", "--plate=3mm", "--stress=235", "--csv"], "out.csv", "CSV of depths for pressures"),
-    (
-        &["reach", "--plate=3mm", "--stress=235", "--json"],
-        "out.json",
-        "JSON of depths for pressures",
-    ),
-    (&["draw", "--reach", "30", "kPa"], "out.svg", "a drawing of depths for pressures"),
-    (&["draw", "--reach=30, 40 kPa"], "out.svg", "a drawing of depths for pressures"),
     (&["draw"], "out.svg", "a drawing"),
     (&["draw", "--depth", "8 m"], "out.svg", "a drawing of a patch"),
 ];
@@ -234,13 +221,11 @@ fn the_copy_lies_behind_links() {
 }
 
 /// Every CSV that the tool writes.
-const CSV: [&[&str]; 8] = [
+const CSV: [&[&str]; 6] = [
     &["loads", "w.silo", "--csv"],
     &["loads", "w.silo", "--csv-semicolon", "--kpa"],
     &["patch", "w.silo", "--depth", "8 m", "--csv"],
     &["patch", "w.silo", "--depth", "8 m", "--all", "--csv-semicolon"],
-    &["reach", "w.silo", "30", "kPa", "--csv"],
-    &["reach", "w.silo", "--plate", "3 mm", "--stress", "235", "--csv-semicolon"],
     &["catalogue", "--csv"],
     &["catalogue", "--csv-semicolon"],
 ];

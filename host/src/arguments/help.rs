@@ -53,10 +53,7 @@ examples:
   silo loads samples/barley-bin.silo --csv >barley.csv
   silo page samples/wheat-tower.silo -o wheat.page
   silo patch samples/wheat-tower.silo --depth 8 m --all --csv -o patch.csv
-  silo reach samples/wheat-tower.silo 30 kPa, 40 kPa
-  silo reach samples/wheat-tower.silo --plate 0.8, 1.2 mm --stress 90
   silo draw samples/wheat-tower.silo --depth 8 m -o patch.svg
-  silo draw samples/wheat-tower.silo --reach 30 kPa -o reach.svg
   silo draw samples/cement.silo -o cement.svg
   silo sheet samples/cement.silo -o cement.sheet
   silo explain cement.sheet

@@ -1,6 +1,5 @@
 //! The whole right command for words that are nearly one.
 
-use super::asked::is_part;
 use super::table::{self, COMMANDS};
 use super::Arguments;
 use silo::commands::{self, Format};
@@ -10,7 +9,7 @@ use std::ffi::{OsStr, OsString};
 use std::path::Path;
 
 /// Words as a shell reads them.
-pub fn command_line<'a>(words: impl IntoIterator<Item = &'a OsString>) -> String {
+fn command_line<'a>(words: impl IntoIterator<Item = &'a OsString>) -> String {
     let words = words.into_iter().map(|word| quoted(&word.to_string_lossy()));
     ["silo".to_string()].into_iter().chain(words).collect::<Vec<String>>().join(" ")
 }
@@ -78,38 +77,12 @@ impl Arguments {
         }
     }
 
-    /// Pressures stand behind the first word.
-    fn lists_pressures(&self) -> bool {
-        let behind = self.words.get(1..).unwrap_or_default();
-        !behind.is_empty() && behind.iter().all(|word| is_part(&word.to_string_lossy(), ""))
-    }
-
-    /// Where pressures stand before the file that `reach` reads: the command line with the file first.
-    pub fn file_first(&self) -> Option<String> {
-        let words = self.words.iter().enumerate().skip(1);
-        let mut words = words.map(|(i, word)| (i, word.to_string_lossy()));
-        let (_, first) = words.next().filter(|(_, first)| is_part(first, ""))?;
-        if Path::new(&*first).exists() {
-            return None;
-        }
-        let due = "a file is due before the pressures";
-        let Some((file, _)) = words.find(|(_, word)| !is_part(word, "")) else {
-            return Some(format!("{due}, such as samples/wheat-tower.silo"));
-        };
-        let mut given = self.given.clone();
-        let file = given.remove(self.places[file]);
-        given.insert(self.places[1], file);
-        Some(format!("{due}: {}", command_line(&given)))
-    }
-
     /// The first command that takes the options and writes a file of that ending.
     fn fitting(&self) -> &'static str {
         let format = self.format().unwrap_or(Format::Table);
         let fits = |command: &&table::Command| {
-            let kind = commands::kind(command.name, format, self.depth, None);
-            let lists = command.name == "reach" || !self.lists_pressures();
-            lists
-                && self.options.iter().all(|option| command.options.contains(option))
+            let kind = commands::kind(command.name, format, self.depth);
+            self.options.iter().all(|option| command.options.contains(option))
                 && self.output.as_ref().is_none_or(|output| kind.fits(output).is_ok())
         };
         COMMANDS.iter().find(fits).unwrap_or(&COMMANDS[0]).name

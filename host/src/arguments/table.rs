@@ -22,7 +22,7 @@ pub struct Choice {
 const SILO: &[&str] = &["silo", "sheet"];
 
 /// The first that takes all options of a command line is the one that is offered where none is named.
-pub const COMMANDS: [Command; 9] = [
+pub const COMMANDS: [Command; 8] = [
     Command {
         name: "loads",
         usage: "FILE",
@@ -53,19 +53,11 @@ pub const COMMANDS: [Command; 9] = [
             "--json", "--kpa", "--depth", "--all", "--strict", "-o", "--force"],
     },
     Command {
-        name: "reach",
-        usage: "FILE 30 kPa, 40 kPa",
-        purpose: "down to where p_he is not above each pressure, or with --plate and --stress above what a plate of a circle carries; or as --csv, --csv-semicolon or --json",
-        reads: SILO,
-        options: &["--csv", "--csv-semicolon",
-            "--json", "--kpa", "--plate", "--stress", "--strict", "-o", "--force"],
-    },
-    Command {
         name: "draw",
         usage: "FILE -o FILE.svg",
-        purpose: "the silo to scale beside its pressures; with --depth 8 m the patch round the shell; with --reach 30 kPa, or --plate and --stress, down to where p_he is not above",
+        purpose: "the silo to scale beside its pressures; with --depth 8 m the patch round the shell",
         reads: SILO,
-        options: &["--kpa", "--depth", "--reach", "--plate", "--stress", "--strict", "-o", "--force"],
+        options: &["--kpa", "--depth", "--strict", "-o", "--force"],
     },
     Command {
         name: "sheet",
@@ -90,7 +82,7 @@ pub const COMMANDS: [Command; 9] = [
     },
 ];
 
-pub const OPTIONS: [Choice; 12] = [
+pub const OPTIONS: [Choice; 9] = [
     Choice {
         name: "-o",
         value: "FILE",
@@ -113,29 +105,12 @@ pub const OPTIONS: [Choice; 12] = [
     Choice {
         name: "--kpa",
         value: "",
-        purpose: "loads, patch, reach and draw: kPa, kN/m and kN in place of Pa, N/m and N",
+        purpose: "loads, patch and draw: kPa, kN/m and kN in place of Pa, N/m and N",
     },
     Choice {
         name: "--depth",
         value: "8 m",
         purpose: "where the patch acts, below the brim, in mm, cm or m; also --depth=8m",
-    },
-    Choice {
-        name: "--reach",
-        value: "30 kPa",
-        purpose: "draw: up to 32 pressures, none smaller than the one before, in Pa, kPa, N/m2 or kN/m2, with commas between them or a unit after \
-                  each; a part of a Pa is dropped, since p_he is in whole Pa",
-    },
-    Choice {
-        name: "--plate",
-        value: "3 mm",
-        purpose: "reach and draw, in place of pressures: up to 32 thicknesses in tenths of a mm, 0.1 to 100 mm, none smaller than the one before; \
-                  needs --stress",
-    },
-    Choice {
-        name: "--stress",
-        value: "235",
-        purpose: "the plates' stress, whole N/mm2, 50 to 500",
     },
     Choice { name: "--all", value: "", purpose: "patch: every degree in place of every tenth" },
     Choice { name: "--strict", value: "", purpose: "exit status 3 where the silo is improbable" },

@@ -6,7 +6,6 @@ use super::svg::Svg;
 use crate::basis::{Made, WALL};
 use crate::description::Description;
 use crate::library::{Loads, P_HE, P_HF, P_P, P_WE, P_WF, Z};
-use crate::reach::Mark;
 use crate::report::Report;
 
 /// A pressure's column, its name, and the classes of its line.
@@ -49,30 +48,12 @@ fn greatest(curves: &Loads) -> u32 {
     pressures.copied().max().unwrap_or(1).max(1)
 }
 
-/// From one number of the axis to the next, Pa, and pixels for each Pa.
-fn scale(curves: &Loads) -> (f64, f64) {
+pub fn draw(svg: &mut Svg, report: &Report, layout: &Layout, curves: &Loads) {
     let greatest = greatest(curves);
     let parts = if greatest < WIDE_AXIS { 4.0 } else { 3.0 };
     let greatest = f64::from(greatest);
     let step = round_step(greatest, parts);
-    (step, (CHART.1 - CHART.0) / (greatest / step).ceil() / step)
-}
-
-/// A line from each depth to p_he there, and a dot on its curve.
-pub fn marks(svg: &mut Svg, layout: &Layout, curves: &Loads, marks: &[Mark]) {
-    let (_, scale) = scale(curves);
-    let rows = || curves.column(Z).iter().zip(curves.column(P_HE));
-    for mark in marks {
-        let Some((z, p_he)) = rows().find(|(z, _)| **z == mark.depth) else { continue };
-        let y = layout.chart_y(f64::from(*z));
-        let on_curve = (CHART.0 + f64::from(*p_he) * scale, y);
-        svg.line("reach", (CHART.0, y), on_curve);
-        svg.circle("reach", on_curve, 3.2);
-    }
-}
-
-pub fn draw(svg: &mut Svg, report: &Report, layout: &Layout, curves: &Loads) {
-    let (step, scale) = scale(curves);
+    let scale = (CHART.1 - CHART.0) / (greatest / step).ceil() / step;
     pressure_axis(svg, report, layout, (step, scale));
     depth_axis(svg, layout);
     if report.silo.headroom > 0 {

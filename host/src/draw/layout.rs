@@ -12,7 +12,7 @@ pub const TOP: f64 = 38.0;
 pub const BOTTOM: f64 = 755.0;
 /// The silo stands between these: beside its tables, or above them where that makes it so many
 /// times as large.
-pub const SILO: Point = (134.0, 312.0);
+const SILO: Point = (134.0, 312.0);
 const WIDE_SILO: Point = (134.0, 780.0);
 const LARGER: f64 = 1.5;
 /// Lines from the silo to the table are level as far as this.
@@ -31,7 +31,7 @@ const OWN_CHART: f64 = 360.0;
 /// Between the lines of the tables, where there is room.
 const LINE: f64 = 13.0;
 /// Below this the tables have a smaller type.
-pub const TIGHT: f64 = 12.0;
+const TIGHT: f64 = 12.0;
 /// From this pressure on, Pa, numbers are wide.
 pub const WIDE: u32 = 1_000_000;
 /// So near the lines come together to stand beside the wall, and the chart with them.
@@ -164,13 +164,6 @@ impl Layout {
         }
     }
 
-    /// Rows between silo and chart, each as near to its height as the others let it.
-    pub fn rows_at(&self, heights: &[f64], lowest: f64) -> Vec<f64> {
-        let (first, last) = (self.brim + FIRST, lowest - FIRST);
-        let line = LINE.min((last - first) / (heights.len() as f64 - 1.0).max(1.0));
-        apart(heights, line, (first, last))
-    }
-
     /// Silo and chart have one scale of depth.
     pub fn is_aligned(&self) -> bool {
         self.scale == self.depth_scale
@@ -298,14 +291,6 @@ fn can_be_followed(places: &[f64], rows: &[f64]) -> bool {
         let apart = (places[i] - places[i - 1]).min(rows[i] - rows[i - 1]);
         apart / steep(i).abs().max(steep(i - 1).abs()).hypot(1.0) >= FOLLOWED
     })
-}
-
-/// The same of lines of which some may come from one place.
-pub fn from_places(places: &[f64], rows: &[f64]) -> bool {
-    let all: Vec<Point> = places.iter().copied().zip(rows.iter().copied()).collect();
-    let firsts = all.chunk_by(|a, b| a.0 == b.0).map(|group| group[0]);
-    let (places, rows): (Vec<f64>, Vec<f64>) = firsts.unzip();
-    can_be_followed(&places, &rows)
 }
 
 /// The least of 1, 2 and 5 times a power of ten that goes into `most` at most `parts` times.

@@ -3,7 +3,6 @@
 use crate::csv;
 use crate::library::{self, Refusal};
 use crate::patch;
-use crate::reach;
 use crate::report::PROGRAM;
 use crate::text;
 use std::ffi::OsStr;
@@ -23,11 +22,6 @@ pub enum Kind {
     Patch,
     PatchCsv,
     PatchJson,
-    /// The depths for pressures: their drawing, their table, and the same as CSV and JSON.
-    ReachDrawing,
-    Reach,
-    ReachCsv,
-    ReachJson,
     /// Table 7.1, and the same as CSV and as JSON.
     Catalogue,
     CatalogueCsv,
@@ -41,12 +35,12 @@ type Test = fn(&str) -> bool;
 impl Kind {
     pub fn word(self) -> &'static str {
         match self {
-            Kind::Drawing | Kind::PatchDrawing | Kind::ReachDrawing => "drawing",
+            Kind::Drawing | Kind::PatchDrawing => "drawing",
             Kind::Sheet => "sheet",
-            Kind::Table | Kind::Patch | Kind::Reach => "table",
+            Kind::Table | Kind::Patch => "table",
             Kind::Page => "page",
-            Kind::Csv | Kind::PatchCsv | Kind::ReachCsv | Kind::CatalogueCsv => "CSV",
-            Kind::Json | Kind::PatchJson | Kind::ReachJson | Kind::CatalogueJson => "JSON",
+            Kind::Csv | Kind::PatchCsv | Kind::CatalogueCsv => "CSV",
+            Kind::Json | Kind::PatchJson | Kind::CatalogueJson => "JSON",
             Kind::Catalogue => "catalogue",
             Kind::Text => "text",
         }
@@ -64,10 +58,6 @@ impl Kind {
             Kind::Patch => "a table of a patch",
             Kind::PatchCsv => "CSV of a patch",
             Kind::PatchJson => "JSON of a patch",
-            Kind::ReachDrawing => "a drawing of depths for pressures",
-            Kind::Reach => "a table of depths for pressures",
-            Kind::ReachCsv => "CSV of depths for pressures",
-            Kind::ReachJson => "JSON of depths for pressures",
             Kind::Catalogue => "the catalogue",
             Kind::CatalogueCsv => "the catalogue's CSV",
             Kind::CatalogueJson => "the catalogue's JSON",
@@ -76,7 +66,7 @@ impl Kind {
     }
 
     pub fn is_csv(self) -> bool {
-        matches!(self, Kind::Csv | Kind::PatchCsv | Kind::ReachCsv | Kind::CatalogueCsv)
+        matches!(self, Kind::Csv | Kind::PatchCsv | Kind::CatalogueCsv)
     }
 
     /// All but table 7.1.
@@ -87,12 +77,12 @@ impl Kind {
     /// The first is offered.
     fn endings(self) -> &'static [&'static str] {
         match self {
-            Kind::Drawing | Kind::PatchDrawing | Kind::ReachDrawing => &["svg"],
+            Kind::Drawing | Kind::PatchDrawing => &["svg"],
             Kind::Sheet => &["sheet"],
-            Kind::Table | Kind::Patch | Kind::Reach | Kind::Catalogue => &["txt"],
+            Kind::Table | Kind::Patch | Kind::Catalogue => &["txt"],
             Kind::Page => &["page", "txt"],
-            Kind::Csv | Kind::PatchCsv | Kind::ReachCsv | Kind::CatalogueCsv => &["csv"],
-            Kind::Json | Kind::PatchJson | Kind::ReachJson | Kind::CatalogueJson => &["json"],
+            Kind::Csv | Kind::PatchCsv | Kind::CatalogueCsv => &["csv"],
+            Kind::Json | Kind::PatchJson | Kind::CatalogueJson => &["json"],
             Kind::Text => &["silo", "txt"],
         }
     }
@@ -123,24 +113,20 @@ impl Kind {
         }
         let text = std::str::from_utf8(bytes).ok()?;
         let text = text.strip_prefix('\u{feff}').unwrap_or(text);
-        let tests: [(Kind, Test); 17] = [
+        let tests: [(Kind, Test); 13] = [
             (Kind::PatchDrawing, |text| is_drawing(text) && text.contains(SHELL)),
-            (Kind::ReachDrawing, |text| is_drawing(text) && text.contains(MARK)),
             (Kind::Drawing, is_drawing),
-            (Kind::ReachJson, |text| text.starts_with('{') && text.contains("\"next_p_he\"")),
             (Kind::Json, |text| text.starts_with('{') && text.contains("\"p_he\"")),
             (Kind::CatalogueJson, |text| {
                 text.starts_with('{') && text.contains("\"friction_on_concrete_")
             }),
             (Kind::PatchJson, |text| text.starts_with('{') && text.contains("\"band\"")),
             (Kind::PatchCsv, |text| first_cell(text) == "silo" && csv::has_patch(text)),
-            (Kind::ReachCsv, |text| first_cell(text) == "silo" && csv::has_reach(text)),
             (Kind::Csv, |text| first_cell(text) == "silo" && text.contains("p_he")),
             (Kind::CatalogueCsv, |text| first_cell(text) == "row" && text.contains("on steel")),
             (Kind::Catalogue, |text| text.starts_with(CATALOGUE) && ends_with_program(text)),
             (Kind::Page, |text| text.lines().next() == Some(PAGE)),
             (Kind::Patch, |text| has_patch(text) && ends_with_program(text)),
-            (Kind::Reach, |text| has_reach(text) && ends_with_program(text)),
             (Kind::Table, ends_with_program),
             (Kind::Text, text::is_silo),
         ];
@@ -152,8 +138,6 @@ impl Kind {
 const CATALOGUE: &str = "Table 7.1";
 /// What a drawing of a patch has and no other; a person's text has no such quotes.
 const SHELL: &str = "class=\"shell\"";
-/// What a drawing of depths for pressures has and no other.
-const MARK: &str = "class=\"reach\"";
 /// The heading of a load page.
 const PAGE: &str = "        z      phf      pwf      pvf       PW      phe      pwe       pp";
 
@@ -176,11 +160,6 @@ fn is_drawing(text: &str) -> bool {
 fn has_patch(text: &str) -> bool {
     let describes = |line: &str| patch::HEADINGS.iter().any(|heading| line.starts_with(heading));
     text.lines().skip(1).any(describes)
-}
-
-/// A line after the file's name stands before depths for pressures.
-fn has_reach(text: &str) -> bool {
-    text.lines().skip(1).any(|line| line.starts_with(reach::HEADING))
 }
 
 fn first_cell(text: &str) -> &str {

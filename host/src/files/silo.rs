@@ -38,15 +38,13 @@ impl Silo {
     /// The silo that an output names. A page, a sheet and a text name none.
     pub fn of_output(kind: Kind, text: &str) -> Option<Silo> {
         match kind {
-            Kind::Table | Kind::Patch | Kind::Reach => Silo::of_file(text.lines().next()?),
-            Kind::Csv | Kind::PatchCsv | Kind::ReachCsv => Silo::of_file(&cell(text)?),
-            Kind::Json | Kind::PatchJson | Kind::ReachJson => Silo::of_file(&string(text)?),
-            Kind::Drawing | Kind::PatchDrawing | Kind::ReachDrawing => {
-                match element(text, "desc") {
-                    Some(file) => Silo::of_file(&file),
-                    None => Silo::of_title(element(text, "title")?),
-                }
-            }
+            Kind::Table | Kind::Patch => Silo::of_file(text.lines().next()?),
+            Kind::Csv | Kind::PatchCsv => Silo::of_file(&cell(text)?),
+            Kind::Json | Kind::PatchJson => Silo::of_file(&string(text)?),
+            Kind::Drawing | Kind::PatchDrawing => match element(text, "desc") {
+                Some(file) => Silo::of_file(&file),
+                None => Silo::of_title(element(text, "title")?),
+            },
             Kind::Sheet | Kind::Page | Kind::Text => None,
             Kind::Catalogue | Kind::CatalogueCsv | Kind::CatalogueJson => None,
         }

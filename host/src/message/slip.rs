@@ -95,16 +95,12 @@ pub enum Number {
     },
     InThousands,
     Finer,
-    /// No whole number of what is asked in.
-    FinerThan(String),
     /// Feet and inches that are so many mm, no whole number.
     Inches(String),
     /// Marks between thousands.
     Apostrophe,
     /// Over the most that a sheet can say.
     TooLarge(String),
-    /// Over the most that can be asked.
-    NotAsked(Quantity, String),
     /// And its weight, N/m³
     Mass(u64),
     /// And its tangent, where a friction can be that.
@@ -133,11 +129,9 @@ impl Number {
             Number::UnknownUnit { .. } => "unknown-unit",
             Number::InThousands => "in-thousands",
             Number::Finer => "finer-than-a-sheet",
-            Number::FinerThan(_) => "finer-than-is-asked",
             Number::Inches(_) => "inches",
             Number::Apostrophe => "apostrophe",
             Number::TooLarge(_) => "more-than-a-sheet",
-            Number::NotAsked(..) => "more-than-is-asked",
             Number::Mass(_) => "mass",
             Number::Angle(_) => "angle",
             Number::NoSlope => "no-slope",
@@ -492,8 +486,6 @@ pub enum Limit {
     NotRising(u32),
     /// A circle is due; s of the rectangle's patch in mm, where it has loads.
     Rectangle(Option<String>),
-    /// A circle is due for plates.
-    Plates,
     Headroom {
         wall: u64,
         good: Option<(u64, u64)>,
@@ -522,7 +514,7 @@ impl Limit {
             Limit::TooFlat { .. } | Limit::Flat => "hopper-too-flat",
             Limit::BelowFoot(_) => "below-the-foot",
             Limit::NotRising(_) => "depths-must-rise",
-            Limit::Rectangle(_) | Limit::Plates => "rectangle",
+            Limit::Rectangle(_) => "rectangle",
             Limit::Headroom { .. } => "no-grain",
             Limit::TooSlender { .. } => "too-slender",
         }

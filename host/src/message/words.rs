@@ -45,8 +45,6 @@ pub fn refused(number: u32, meaning: &str) -> String {
 pub const ALSO: &str = "also, as this program reads the rules (the library stops at the first):";
 pub const UNREADABLE_FILE: &str = "the file cannot be read";
 pub const UNREADABLE_TEXT: &str = "the text cannot be read";
-/// Of plates of a rectangle.
-pub const NO_CIRCLE: &str = "plates are asked for, and the section is no circle";
 
 /// Of a silo that has loads.
 pub const ACCEPTED: &str = "accepted; silo loads gives its loads";
@@ -87,9 +85,6 @@ fn quantity(quantity: Quantity) -> &'static str {
         Quantity::Ratio => "a ratio",
         Quantity::Friction => "a friction",
         Quantity::Factor => "a factor",
-        Quantity::Pressure => "a pressure",
-        Quantity::Plate => "a plate's thickness",
-        Quantity::Stress => "a stress",
     }
 }
 
@@ -115,7 +110,6 @@ fn mend(mend: &Mend) -> String {
         Reading::ForDrag => format!("{value}, careful for the drag on the wall"),
         Reading::ForFloor => format!("{value}, careful for the floor"),
         Reading::ForWall => format!("{value}, careful for the wall"),
-        Reading::Weaker => format!("{value}, the next below, which carries less"),
         Reading::Vertical => format!("{value} if it was measured from the vertical"),
         Reading::Decimal => format!("{value} for a decimal"),
         Reading::Numbers(count) => format!("{value} for {count} numbers"),
@@ -181,11 +175,6 @@ fn found(what: &Number) -> String {
         Number::Words(words) => {
             return format!("words beside the number that are not read: {words}")
         }
-        Number::FinerThan(least) => return format!("finer than {least}"),
-        Number::NotAsked(Quantity::Pressure, most) => {
-            return format!("over {most}, the most that can be asked; no wall has as much")
-        }
-        Number::NotAsked(_, most) => return format!("over {most}, the most that can be asked"),
         Number::TooLarge(most) => return format!("over {most}, the most that a sheet can say"),
         Number::Inches(mm) => return format!("{mm} mm, and a sheet holds whole mm"),
         Number::Angle(Some(tangent)) => {
@@ -617,10 +606,6 @@ fn limit(what: &Limit, mends: &[Mend]) -> String {
                 format!("; silo loads has a rectangle's p_p, which acts on {squares}")
             });
             format!("a circle is due{}", loads.unwrap_or_default())
-        }
-        Limit::Plates => {
-            let hoop = "a plate's pressure is found by a rule for the hoop of a circle";
-            format!("{hoop}; ask for pressures in place of --plate, such as 30 kPa")
         }
         Limit::Headroom { wall, good, higher } => headroom(*wall, *good, *higher, mends),
         Limit::TooSlender { .. } => slender(what),
