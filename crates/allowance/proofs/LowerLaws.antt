@@ -1,4 +1,4 @@
--- From a filling pressure's own band to its lower fractions. Where P-as-S_n ≤ P + p·S_n for every n, a lower fraction v has
+-- From a filling pressure's own band to its lower fractions. Where P·S_n ≤ P + p·S_n for every n, a lower fraction v has
 -- v·S_n ≤ p·S_n for some n, and S_n is positive. Where P + p·S_n ≤ (P + 2)·S_n for some n, p - 2 is a lower fraction;
 -- 0 always is one, at n = 0.
 use Prim.Native.Nat.{ℕ, zero, suc, ◌+◌, ◌-◌, ◌*◌, ◌≤◌, ◌<◌}

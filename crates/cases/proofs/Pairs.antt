@@ -19,26 +19,26 @@ use Rattle.janssen.specs.program.Range.{InRange, InDepth}
 use Rattle.janssen.proofs.Geometry.{q_pos}
 use Rattle.janssen.proofs.FillingLaws.{decay_below, decay_reaches}
 
--- P = a/b, S_n = s/t: at or above, where X-as-S_n ≥ 2^40
+-- P = a/b, S_n = s/t: at or above, where X·S_n ≥ 2^40
 least : (a b s t X p : ℕ) → 0 < b → 0 < s → 0 < t → 2 ^ 40 * t ≤ X * s → a * s * (b * (1 * t)) ≤ (a * (1 * t) + p * s * b) * (b * t) → 2 ^ 40 * a ≤ X * a + 2 ^ 40 * p * b
 least a b s t X p hb hs ht reach h =
     let i : a * s ≤ a * t + p * s * b = le_of_mul-le-mul_right {k = b * t} (omega (arith, h)) (mul-pos hb ht) in
     le_of_mul-le-mul_right {k = s} (omega (arith, i, mul-le-mul_left a reach)) hs
 
--- less than 2 above, where E-as-S_n ≤ 2^40
+-- less than 2 above, where E·S_n ≤ 2^40
 most : (a b s t E p : ℕ) → 0 < b → 0 < s → 0 < t → E * s ≤ 2 ^ 40 * t → (a * (1 * t) + p * s * b) * (b * 1 * t) ≤ (a * 1 + 2 * b) * s * (b * (1 * t)) → a * E + 2 ^ 40 * p * b ≤ 2 ^ 40 * (a + 2 * b)
 most a b s t E p hb hs ht below h =
     let i : a * t + p * s * b ≤ (a + 2 * b) * s = le_of_mul-le-mul_right {k = b * t} (omega (arith, h)) (mul-pos hb ht) in
     le_of_mul-le-mul_right {k = s} (omega (arith, i, mul-le-mul_left a below)) hs
 
--- D = a/b, N = c/d, S_n = s/t: at or above, where E-as-S_n ≤ 2^40
+-- D = a/b, N = c/d, S_n = s/t: at or above, where E·S_n ≤ 2^40
 load_least : (a b c d s t E w : ℕ) → 0 < b → 0 < s → 0 < t → E * s ≤ 2 ^ 40 * t → (a * (d * t) + c * s * b) * (1 * b * t) ≤ (w * b + a * 1) * s * (b * (d * t))
     → a * d * E + 2 ^ 40 * (c * b) ≤ 2 ^ 40 * ((w * b + a) * d)
 load_least a b c d s t E w hb hs ht below h =
     let i : a * d * t + c * s * b ≤ (w * b + a) * s * d = le_of_mul-le-mul_right {k = b * t} (omega (arith, h)) (mul-pos hb ht) in
     le_of_mul-le-mul_right {k = s} (omega (arith, i, mul-le-mul_left (a * d) below)) hs
 
--- less than 2 above, where X-as-S_n ≥ 2^40
+-- less than 2 above, where X·S_n ≥ 2^40
 load_most : (a b c d s t X w : ℕ) → 0 < b → 0 < s → 0 < t → 2 ^ 40 * t ≤ X * s → (w * b + a * 1) * s * (b * (d * 1 * t)) ≤ (a * (d * 1 * t) + (c * 1 + 2 * d) * s * b) * (1 * b * t)
     → 2 ^ 40 * ((w * b + a) * d) ≤ a * d * X + 2 ^ 40 * ((c + 2 * d) * b)
 load_most a b c d s t X w hb hs ht reach h =

@@ -61,7 +61,7 @@ lower_first Q h =
       },
     )
 
--- the fractions cancel: Z is at most X-as-Y, and w/2^33 at most 1/Y
+-- the fractions cancel: Z is at most X·Y, and w/2^33 at most 1/Y
 cancel : (E E' w Xt Xb Yt Yb Zt Zb : ℕ) → 0 < Xt → 0 < Yb → 0 < Zb → E * Xt ≤ 2 ^ 40 * Xb → w * Yt ≤ 2 ^ 33 * Yb
     → 2 ^ 40 * Zb ≤ E' * Zt → Zt * (Xb * Yb) ≤ Xt * Yt * Zb → E * w ≤ E' * 2 ^ 33
 cancel E E' w Xt Xb Yt Yb Zt Zb hX hY hZ below near reaches split =

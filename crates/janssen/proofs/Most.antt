@@ -24,7 +24,7 @@ pressure_most : (a b s t x m : ℕ) → 0 < b → 0 < t → 0 < s → a ≤ m * 
 pressure_most a b s t x m hb ht hs h order =
     le_of_mul-le-mul_right {k = s * b * (b * t)} (omega (arith, order, mul-le-mul_right (s * (b * t)) h)) (mul-pos (mul-pos hs hb) (mul-pos hb ht))
 
--- P = a/b, S = s/t above 1, and a pressure x with P-as-S ≤ P + x·S
+-- P = a/b, S = s/t above 1, and a pressure x with P·S ≤ P + x·S
 pressure_some : (a b s t x : ℕ) → 0 < a → 0 < b → 0 < t → t < s → a * s * (b * (1 * t)) ≤ (a * (1 * t) + x * s * b) * (b * t) → 0 < x
 pressure_some a b s t x ha hb ht h order = at (dec_lt 0 x)
   where

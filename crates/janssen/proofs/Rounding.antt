@@ -1,7 +1,7 @@
 -- Why the rounded pressure lies in its band, for any P, any sum s/t of the series, and any whole E that stands for 2^40·e^(-q).
 -- With X = 2^40 - E, L = ⌈P·2^11⌉ and p = ⌈L·X/2^51⌉:
---   above: p·2^40 ≥ P-as-X, so P·2^40 ≤ p·2^40 + P-as-E; times s/t, where E·s/t ≤ 2^40.
---   close: p·2^40 ≤ P-as-X + 2^29 + 2^40; times s/t, where (E + 512)·s/t ≥ 2^40 and 512·P ≤ 2^34 - 2^29.
+--   above: p·2^40 ≥ P·X, so P·2^40 ≤ p·2^40 + P·E; times s/t, where E·s/t ≤ 2^40.
+--   close: p·2^40 ≤ P·X + 2^29 + 2^40; times s/t, where (E + 512)·s/t ≥ 2^40 and 512·P ≤ 2^34 - 2^29.
 use Prim.Native.Nat.{ℕ, ◌+◌, ◌-◌, ◌*◌, ◌^◌, ◌≤◌, ◌<◌}
 use mathlib.Core.Path.{◌≡◌, ap}
 use native.Mathlib.Omega.{arith}

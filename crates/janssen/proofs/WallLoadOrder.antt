@@ -37,7 +37,7 @@ load_positive : (L G : ℕ) → 0 < L → 0 < G → 0 < load L G
 unfolding load
 load_positive L G hL hG = omega (arith, up_ge (L * G) (2 ^ 22 * 1000) (omega arith), mul-pos hL hG)
 
--- step T and z0 Z in 2^-11 mm: Z-as-T is 2^66 but for rounding
+-- step T and z0 Z in 2^-11 mm: Z·T is 2^66 but for rounding
 record Scaled (T Z : ℕ) : Type 0 where
   product_most : Z * T ≤ 2 ^ 66 + Z
   product_least : 2 ^ 66 ≤ (Z + 1) * T
