@@ -27,13 +27,11 @@ blank : Blank (factor_sheet 0)
 unfolding behind_section case_sheet record_place payload payload_length u16 u32 product_sent
 blank = record { ten = refl; inside = leb→le _ _ tt; blank = refl }
 
-written : with_factor 155 (factor_sheet 0) ≡ factor_sheet 155
-unfolding with_factor behind_section case_sheet payload record_place u16
-written = refl
-
 pub same_as_155 : (lent left left' : List ℕ) (r r' : ℕ) → Promise computed_by table (factor_sheet 0) lent r left → Promise computed_by table (factor_sheet 155) lent r' left'
     → (r ≡ r') × (left ≡ left')
+unfolding with_factor behind_section case_sheet payload record_place u16
 same_as_155 lent left left' r r' a b =
+    let written : with_factor 155 (factor_sheet 0) ≡ factor_sheet 155 = refl in
     acts_as_155 (factor_sheet 0) blank computed_by table lent left left' r r' a (subst (λ (s : List ℕ). Promise computed_by table s lent r' left') (sym written) b)
 
 -- p_he of the second depth, 5,000

@@ -1,3 +1,4 @@
 pub mod Pairs
 pub mod Factor
+pub mod Squat
 pub mod Marked

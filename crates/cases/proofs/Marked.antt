@@ -6,21 +6,19 @@ use lib.Dec.{ltb, lit<, ltb→lt, leb→le}
 use lib.ListN.{take, drop, replicate}
 use mathlib.Core.List.{List, [], ◌∷◌}
 use mathlib.Core.Bool.{true, false}
-use mathlib.Core.Path.{◌≡◌, refl, ap, ap₂, ◌∙◌}
+use mathlib.Core.Path.{◌≡◌, refl, ap, ◌∙◌}
 use Rattle.fraction.specs.Fraction.{◌⊘◌, up}
 use Rattle.exponential.specs.program.Table.{table}
 use Rattle.exponential.specs.program.Lower.{lower_by, between, denominator, entry_in}
 use Rattle.janssen.specs.declared.Section.TheVariants.{Circle}
 use Rattle.janssen.specs.Filling.Kind.{horizontal, vertical, wall_friction}
 use Rattle.janssen.specs.program.Range.{InRange, InDepth}
-use Rattle.janssen.specs.Numbers.{FillingNumbers}
 use Rattle.janssen.specs.Section.{side_a, side_b, d_c, R}
 use Rattle.janssen.specs.Filling.{grain_of, Ks, μ, z0, q, γR, P, D, N}
 use Rattle.janssen.specs.program.Pressure.{step, limit, decay_by, pressure, filling_by, z0_scaled, loaded_depth, load, wall_load_by, computed_by, computed}
 use Rattle.discharge.specs.Discharge.{magnifier, magnified_load, patch_load}
-use Rattle.discharge.specs.program.Magnifier.{horizontal_magnifier, friction_magnifier}
 use Rattle.loads.specs.Load.{Load}
-use Rattle.loads.specs.Load.{load_depth, full_height, C_h, C_w, load_number}
+use Rattle.loads.specs.Load.{load_depth, C_h, C_w, load_number}
 use Rattle.loads.specs.Load.Load.{listed_depth, p_hf, p_wf, p_vf, P_w, p_he, p_we, p_p}
 use Rattle.records.specs.Format.{u16, u32, numbers, record_place, kind, payload, payload_length, allowed, record_rules, records_rules, record_count, layout_rules}
 use Rattle.records.specs.Rules.{◌unless◌, first_unmet}
@@ -30,10 +28,9 @@ use Rattle.sheet.specs.Refusal.{sides_met, proportion_met, strakes_met, depths_m
 use Rattle.sheet.proofs.Layouts.{layout_numbered}
 use Rattle.answers.specs.Length.{length_due}
 use Rattle.answers.specs.Length.{told}
-use Rattle.answers.specs.Answers.{silo_of}
-use Rattle.answers.proofs.Demand.{same_height}
 use Rattle.cases.specs.Cases.{behind_section, case_sheet, rectangle_sheet, case_product, case_silo, middle_number, OfHeight, Marked}
 use Rattle.cases.proofs.Pairs.{filling_pair, wall_load_pair}
+use Rattle.cases.proofs.Squat.{squat_discharge, squat_friction_discharge}
 use Rattle.cases.proofs.Factor.{same_as_155, other_than_135}
 
 -- the rules before 12 are passed over, and the shape is judged by h alone
@@ -44,23 +41,6 @@ by_shape h s u =
     let p = apart (take 8 (value_rules false true s)) (layout_rules s) (layout_numbered s) u.before in
     let q = skipped shape (take 8 (value_rules false true s)) refl p.1 in
     skipped (value_rules false true s) (layout_rules s) (layout_numbered s) p.0 ∙ q ∙ simp (u.width, u.height)
-
--- h 7,499 over 5,000: C_h is 1 + 0.8·2,499/5,000 at C0 140, C_w 1 + 0.2·2,499/5,000
-module _ (g : FillingNumbers) (s : List ℕ) (u : OfHeight 7499 s) where
-  height : full_height (silo_of s) ≡ 7499
-  height = same_height s ∙ u.height
-
-  squat_discharge : (product_of s).factor ≡ 140 → (z : ℕ) → load_number g (silo_of s) p_hf z ≡ 17597 → load_number g (silo_of s) p_he z ≡ 24633
-  unfolding magnified_load magnifier up
-  squat_discharge f z e =
-      ap₂ (λ (h p : ℕ). magnified_load (horizontal_magnifier (product_of s).factor h (d_c (section_of s))) p) height e
-      ∙ ap₂ (λ (C d : ℕ). magnified_load (horizontal_magnifier C 7499 d) 17597) f u.width
-
-  squat_friction_discharge : (z : ℕ) → load_number g (silo_of s) p_wf z ≡ 7345 → load_number g (silo_of s) p_we z ≡ 8080
-  unfolding magnified_load magnifier up
-  squat_friction_discharge z e =
-      ap₂ (λ (h p : ℕ). magnified_load (friction_magnifier h (d_c (section_of s))) p) height e
-      ∙ ap (λ (d : ℕ). magnified_load (friction_magnifier 7499 d) 7345) u.width
 
 in_range : InRange (Circle 5000) (grain_of case_product)
 unfolding side_a side_b
