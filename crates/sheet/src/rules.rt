@@ -142,6 +142,7 @@ fn depth_met(depth: u64, foot: u64) -> bool
 }
 
 // The first refusal of rules 6, 20, 7 to 11, 17 and 12 of the silo described and a depth given, or 0. No rule behind it is worked out.
+#[tactic(auto, unfolding(crate::specs::program::Judged::described_rules, records::specs::Rules::first_unmet))]
 pub fn values_refusal(asked: Asked, sheet: &[u8], described: Described, depth: u64) -> u32
     requires { Sized described × (described.depths ≡ depths_in sheet.now) }
     ensures { result ≡ first_unmet (described_rules asked described (depths_of sheet.now) depth) }

@@ -38,10 +38,10 @@ pub quotient_up-load-requires : goal.quotient_up-load-requires
 quotient_up-load-requires c = let run = c.requires.1 in omega (arith, mul-pos run run)
 
 pub overflow_add-result : goal.overflow_add-result
-overflow_add-result c = omega (arith, (answer c.args.height c.args.run c.args.k c.args.filling c.args.vertical.0 _ _ _ c.requires.0 c.requires.1 c.requires.2 c.requires.3 c.requires.4 c.requires.5 c.square-rise.ensures.0 c.square-across.ensures.0 c.quotient_up-load.ensures).1)
+overflow_add-result c = omega (arith, (answer _ _ _ _ _ _ _ _ c.requires.0 c.requires.1 c.requires.2 c.requires.3 c.requires.4 c.requires.5 c.square-rise.ensures.0 c.square-across.ensures.0 c.quotient_up-load.ensures).1)
 
 pub overflow_cast-result : goal.overflow_cast-result
-overflow_cast-result c = omega (arith, (answer c.args.height c.args.run c.args.k c.args.filling c.args.vertical.0 _ _ _ c.requires.0 c.requires.1 c.requires.2 c.requires.3 c.requires.4 c.requires.5 c.square-rise.ensures.0 c.square-across.ensures.0 c.quotient_up-load.ensures).1)
+overflow_cast-result c = omega (arith, (answer _ _ _ _ _ _ _ _ c.requires.0 c.requires.1 c.requires.2 c.requires.3 c.requires.4 c.requires.5 c.square-rise.ensures.0 c.square-across.ensures.0 c.quotient_up-load.ensures).1)
 
 pub returns : goal.returns
-returns c = answer c.args.height c.args.run c.args.k c.args.filling c.args.vertical.0 _ _ _ c.requires.0 c.requires.1 c.requires.2 c.requires.3 c.requires.4 c.requires.5 c.square-rise.ensures.0 c.square-across.ensures.0 c.quotient_up-load.ensures
+returns c = answer _ _ _ _ _ _ _ _ c.requires.0 c.requires.1 c.requires.2 c.requires.3 c.requires.4 c.requires.5 c.square-rise.ensures.0 c.square-across.ensures.0 c.quotient_up-load.ensures

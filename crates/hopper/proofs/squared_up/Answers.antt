@@ -31,29 +31,31 @@ pub times-twice-requires : goal.times-twice-requires
 times-twice-requires c =
     let a = c.args in
     let q = c.times-once.result in
-    let o = once c.args.n c.args.d c.args.factor _ _ _ _ c.requires.2 c.requires.3 c.of.ensures.0 c.times-once.ensures.0 in
+    let o = once _ _ _ _ _ _ _ c.requires.2 c.requires.3 c.of.ensures.0 c.times-once.ensures.0 in
     room a.d _ q.whole q.rest (2587500 * 25000) c.times-once.ensures.1 (omega arith) (omega arith) (omega arith) (omega arith)
 
 pub overflow_add-result : goal.overflow_add-result
 overflow_add-result c =
     let a = c.args in
-    let o = once c.args.n c.args.d c.args.factor _ _ _ _ c.requires.2 c.requires.3 c.of.ensures.0 c.times-once.ensures.0 in
+    let o = once _ _ _ _ _ _ _ c.requires.2 c.requires.3 c.of.ensures.0 c.times-once.ensures.0 in
     let factor : a.factor ≤ 25000 = omega arith in
     omega (
       arith,
-      whole_bound a.d c.times-twice.result.whole c.times-twice.result.rest _ (2587500 * 25000 * 25000) (omega arith) (twice c.args.n c.args.d c.args.factor _ _ _ _ (once c.args.n c.args.d c.args.factor _ _ _ _ c.requires.2 c.requires.3 c.of.ensures.0 c.times-once.ensures.0).0 c.times-twice.ensures.0)
+      whole_bound a.d c.times-twice.result.whole c.times-twice.result.rest _ (2587500 * 25000 * 25000) (omega arith) (twice _ _ _ _ _ _ _ o.0 c.times-twice.ensures.0)
           (omega (arith, mul-le-mul o.1 factor)),
     )
 
 pub returns-then-twice-eq0 : goal.returns-then-twice-eq0
 returns-then-twice-eq0 c =
     let a = c.args in
+    let o = once _ _ _ _ _ _ _ c.requires.2 c.requires.3 c.of.ensures.0 c.times-once.ensures.0 in
     let x = c.times-twice.result in
-    sym (up_exact (a.n * (a.factor * a.factor)) a.d x.whole x.rest (twice c.args.n c.args.d c.args.factor _ _ _ _ (once c.args.n c.args.d c.args.factor _ _ _ _ c.requires.2 c.requires.3 c.of.ensures.0 c.times-once.ensures.0).0 c.times-twice.ensures.0) c.times-twice.ensures.1 c.if-twice-eq0.true)
+    sym (up_exact (a.n * (a.factor * a.factor)) a.d x.whole x.rest (twice _ _ _ _ _ _ _ o.0 c.times-twice.ensures.0) c.times-twice.ensures.1 c.if-twice-eq0.true)
 
 pub returns-else-twice-eq0 : goal.returns-else-twice-eq0
 returns-else-twice-eq0 c =
     let a = c.args in
+    let o = once _ _ _ _ _ _ _ c.requires.2 c.requires.3 c.of.ensures.0 c.times-once.ensures.0 in
     let x = c.times-twice.result in
     let some_rest : 0 < x.rest = omega (arith, c.if-twice-eq0.false) in
-    sym (up_next (a.n * (a.factor * a.factor)) a.d x.whole x.rest (twice c.args.n c.args.d c.args.factor _ _ _ _ (once c.args.n c.args.d c.args.factor _ _ _ _ c.requires.2 c.requires.3 c.of.ensures.0 c.times-once.ensures.0).0 c.times-twice.ensures.0) c.times-twice.ensures.1 some_rest)
+    sym (up_next (a.n * (a.factor * a.factor)) a.d x.whole x.rest (twice _ _ _ _ _ _ _ o.0 c.times-twice.ensures.0) c.times-twice.ensures.1 some_rest)

@@ -33,28 +33,28 @@ length_due-due-requires c =
 
 pub slice_bounds-list-end : goal.slice_bounds-list-end
 slice_bounds-list-end c =
-    let told = inside c.args.sheet.now c.blank-list.result c.args.described c.length_due-due.result c.requires.0 c.requires.1 c.length_due-due.ensures.0 c.blank-list.ensures in
+    let told = inside _ _ _ _ c.requires.0 c.requires.1 c.length_due-due.ensures.0 c.blank-list.ensures in
     told.1
 
 pub slice_bounds-fill-end : goal.slice_bounds-fill-end
 slice_bounds-fill-end c =
     let room = c.blank-list.result in
     let n = c.length_due-due.result in
-    let told = inside c.args.sheet.now c.blank-list.result c.args.described c.length_due-due.result c.requires.0 c.requires.1 c.length_due-due.ensures.0 c.blank-list.ensures in
+    let told = inside _ _ _ _ c.requires.0 c.requires.1 c.length_due-due.ensures.0 c.blank-list.ensures in
     lent_count n room told.1
 
 pub fill-requires : goal.fill-requires
 fill-requires c =
     let room = c.blank-list.result in
     let n = c.length_due-due.result in
-    let told = inside c.args.sheet.now c.blank-list.result c.args.described c.length_due-due.result c.requires.0 c.requires.1 c.length_due-due.ensures.0 c.blank-list.ensures in
+    let told = inside _ _ _ _ c.requires.0 c.requires.1 c.length_due-due.ensures.0 c.blank-list.ensures in
     (c.requires.0, c.requires.1, sym (lent_count n room told.1) ∙ told.0)
 
 pub slice_bounds-list-end-2 : goal.slice_bounds-list-end-2
 slice_bounds-list-end-2 c =
     let room = c.blank-list.result in
     let n = c.length_due-due.result in
-    let told = inside c.args.sheet.now c.blank-list.result c.args.described c.length_due-due.result c.requires.0 c.requires.1 c.length_due-due.ensures.0 c.blank-list.ensures in
+    let told = inside _ _ _ _ c.requires.0 c.requires.1 c.length_due-due.ensures.0 c.blank-list.ensures in
     let filled = c.fill in
     filled_room n room told.1 filled.new.list filled.auto.list
 
@@ -62,7 +62,7 @@ pub slice_bounds-put_page-end : goal.slice_bounds-put_page-end
 slice_bounds-put_page-end c =
     let room = c.blank-list.result in
     let n = c.length_due-due.result in
-    let told = inside c.args.sheet.now c.blank-list.result c.args.described c.length_due-due.result c.requires.0 c.requires.1 c.length_due-due.ensures.0 c.blank-list.ensures in
+    let told = inside _ _ _ _ c.requires.0 c.requires.1 c.length_due-due.ensures.0 c.blank-list.ensures in
     let filled = c.fill in
     filled_count n room told.1 filled.new.list filled.auto.list
 
@@ -71,7 +71,7 @@ put_page-requires c =
     let s = c.args.sheet.now in
     let room = c.blank-list.result in
     let n = c.length_due-due.result in
-    let told = inside c.args.sheet.now c.blank-list.result c.args.described c.length_due-due.result c.requires.0 c.requires.1 c.length_due-due.ensures.0 c.blank-list.ensures in
+    let told = inside _ _ _ _ c.requires.0 c.requires.1 c.length_due-due.ensures.0 c.blank-list.ensures in
     let filled = c.fill in
     let h = c.requires.0 in
     let list = filled_front n room told.1 filled.new.list filled.auto.list ∙ filled.ensures in
@@ -84,7 +84,7 @@ returns c =
     let s = c.args.sheet.now in
     let room = c.blank-list.result in
     let n = c.length_due-due.result in
-    let told = inside c.args.sheet.now c.blank-list.result c.args.described c.length_due-due.result c.requires.0 c.requires.1 c.length_due-due.ensures.0 c.blank-list.ensures in
+    let told = inside _ _ _ _ c.requires.0 c.requires.1 c.length_due-due.ensures.0 c.blank-list.ensures in
     let filled = c.fill in
     let put = c.put_page in
     let h = c.requires.0 in
