@@ -72,6 +72,12 @@ def turned(text, names):
     return TOKEN.sub(lambda m: snake(m.group(0)) if m.group(0) in names else m.group(0), text)
 
 
+def keep(path, text, new):
+    if new != text:
+        with open(path, "w", encoding="utf-8") as f:
+            f.write(new)
+
+
 def main():
     crates = set(os.listdir("crates"))
     names = own(crates)
@@ -93,26 +99,13 @@ def main():
     before = {w.replace("_", "-") for w in words if "_" in w}
     for p in files("crates", ".antt", ".rt"):
         text = read(p)
-        if p.endswith(".rt"):
-            # clauses alone: a token with a dash in code is a difference without blanks, which the layout never has
-            new = turned(text, names - of_kit(text, crates))
-        else:
-            new = turned(text, names - of_kit(text, crates))
-        if new != text:
-            with open(p, "w", encoding="utf-8") as f:
-                f.write(new)
+        keep(p, text, turned(text, names - of_kit(text, crates)))
     for p in files("crates", ".edit"):
         text = read(p)
-        new = turned(text, names | before)
-        if new != text:
-            with open(p, "w", encoding="utf-8") as f:
-                f.write(new)
+        keep(p, text, turned(text, names | before))
     for p in ["README.md", *files("docs", ".md")]:
         text = read(p)
-        new = re.sub(r"`[^`\n]+`", lambda m: turned(m.group(0), names | before), text)
-        if new != text:
-            with open(p, "w", encoding="utf-8") as f:
-                f.write(new)
+        keep(p, text, re.sub(r"`[^`\n]+`", lambda m: turned(m.group(0), names | before), text))
     print(f"{len(names)} names")
 
 
