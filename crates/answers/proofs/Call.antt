@@ -9,6 +9,7 @@ use native.Mathlib.Omega.{arith}
 use borrow.Author.Tests.{eq-eqb, ne_eqb}
 use lib.Dec.{eqb}
 use lib.ListN.{length}
+use Rattle.std.specs.Prelude.{Ok, Err}
 use Rattle.exponential.specs.program.Table.{table}
 use Rattle.exponential.proofs.TableLaws.{tabulated}
 use Rattle.janssen.specs.Numbers.{FillingNumbers}
@@ -18,7 +19,6 @@ use Rattle.records.proofs.Fills.{fills_refused, fills_done}
 use Rattle.sheet.specs.Refusal.{refusal_of}
 use Rattle.sheet.proofs.Chains.{sheet_first, sheet_passed, sheet_met, call_never_13}
 use Rattle.answers.specs.Length.{length_due, answers_length}
-use Rattle.answers.specs.declared.length.Length.TheVariants.{Due, Refused}
 use Rattle.answers.specs.Answers.{Filled, loads_rules}
 use Rattle.answers.specs.Claim.{Claim}
 use Rattle.answers.specs.Order.{LeftFor}
@@ -52,11 +52,11 @@ left_for f t s lent left r p e = record { accepted = not_refused s (length lent)
 
 -- beside the length call (document 02, C-17): the refusal that it answers, or 20; and 20 where it tells a length, which the list has
 module _ (f : List ℕ → FillingNumbers) (t s lent left : List ℕ) (r : ℕ) (p : Promise f t s lent r left) where
-  pub refused_or_20 : (k : ℕ) → answers_length s ≡ Refused k → (r ≡ k) ⊎ (r ≡ 20)
+  pub refused_or_20 : (k : ℕ) → answers_length s ≡ Err k → (r ≡ k) ⊎ (r ≡ 20)
   unfolding loads_rules
   refused_or_20 = beside_refused s _ (length_due s) p.1.answer
 
-  pub measured_refused : answers_length s ≡ Due (length lent) → (r ≡ 0 → ⊥) → r ≡ 20
+  pub measured_refused : answers_length s ≡ Ok (length lent) → (r ≡ 0 → ⊥) → r ≡ 20
   unfolding loads_rules first_unmet
   measured_refused e = beside_due s _ (length_due s) p.1.answer (length lent) e (λ o. simp (eq-eqb (length lent) (length_due s) (sym o)))
 

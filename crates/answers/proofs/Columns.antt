@@ -5,13 +5,13 @@
 --     rows_hold       so every load keeps its band or allowance where the row order held it
 --     in_rows         every list in columns has one in rows beside it
 -- Assumes nothing.
-use Prim.Native.Nat.{ℕ, zero, suc, ◌+◌, ◌*◌, ◌≤◌, ◌<◌}
-use mathlib.Core.Path.{◌≡◌, refl, ap, sym, subst, ◌∙◌}
-use mathlib.Core.List.{List, [], ◌∷◌, ◌++◌, map}
-use native.Mathlib.Nat.{not-suc-le-zero, le_of_suc-le-suc}
+use Prim.Native.Nat.{ℕ, ◌+◌, ◌*◌, ◌≤◌, ◌<◌}
+use mathlib.Core.Path.{◌≡◌, ap, sym, subst, ◌∙◌}
+use mathlib.Core.List.{List, ◌++◌, map}
 use native.Mathlib.Omega.{arith}
 use lib.ListN.{length, get_or, drop, length-append, length-drop, length-map, get_or-append}
 use lib.Seq.{get_or-append-add, get_or-take, get_or-drop, length-take-le, ext_get_or}
+use Rattle.std.proofs.lemmas.List.{get_or-map}
 use Rattle.janssen.specs.Numbers.{FillingNumbers}
 use Rattle.description.specs.Silo.{strake_count, depths_of, depth_count}
 use Rattle.sheet.specs.Refusal.{refusal_of}
@@ -32,11 +32,6 @@ use Rattle.answers.proofs.Stores.{grid_length, grid_at}
 use Rattle.answers.proofs.PlaceLaws.{column_before}
 use Rattle.answers.proofs.Places.{rank_most, at_load}
 use Rattle.answers.proofs.Order.{depths_hold}
-
-map_at : (g : ℕ → ℕ) (l : List ℕ) (i : ℕ) → i < length l → get_or (map g l) i 0 ≡ g (get_or l i 0)
-map_at g [] i h = absurd (not-suc-le-zero h)
-map_at g (x ∷ l) zero h = refl
-map_at g (x ∷ l) (suc i) h = map_at g l i (le_of_suc-le-suc h)
 
 module _ (f : FillingNumbers) (s list : List ℕ) (a : Filled f s list) where
   abbrev n : ℕ
@@ -59,7 +54,7 @@ module _ (f : FillingNumbers) (s list : List ℕ) (a : Filled f s list) where
       get_or-take n (drop from list) i 0 here
       ∙ get_or-drop from list i 0
       ∙ at_load a l i here
-      ∙ sym (map_at g (depths_of s) i (omega (arith, here, depths_length s))))
+      ∙ sym (get_or-map g (depths_of s) i 0 0 (omega (arith, here, depths_length s))))
 
   pub same_numbers : (rows : List ℕ) → FilledBy row_place f s rows → SameNumbers s list rows
   same_numbers rows b =

@@ -2,7 +2,7 @@
 -- Assumes nothing.
 use Prim.Native.Nat.{ℕ, zero, suc, ◌+◌, ◌-◌, ◌*◌, ◌≤◌, ◌<◌}
 use mathlib.Core.Path.{◌≡◌, refl, ap, sym, ◌∙◌}
-use mathlib.Core.List.{List, [], ◌∷◌, ◌++◌, append_assoc}
+use mathlib.Core.List.{List, [], ◌∷◌, ◌++◌, append_assoc, append-nil}
 use native.Mathlib.Nat.{add-zero, add-suc, suc-add, zero-add, not-suc-le-zero, le_of_suc-le-suc}
 use native.Mathlib.Numerals.{add-one}
 use native.Mathlib.Omega.{arith}
@@ -83,6 +83,10 @@ each_append F k zero b = rw (zero-add, add-zero) refl
 each_append F k (suc a) b =
     rw (suc-add, add-suc, ← suc-add)
     (ap (λ (l : List ℕ). F k ++ l) (each_append F (suc k) a b) ∙ sym (append_assoc (F k) (each F (suc k) a) (each F (suc k + a) b)))
+
+pub each_more : (F : ℕ → List ℕ) (n : ℕ) → each F 0 (suc n) ≡ each F 0 n ++ F n
+unfolding each
+each_more F n = ap (each F 0) (sym (add-one n)) ∙ each_append F 0 n 1 ∙ rw (zero-add, append-nil) refl
 
 pub each_split : (F : ℕ → List ℕ) (a b : ℕ) → each F 0 (a + b) ≡ each F 0 a ++ each (λ (i : ℕ). F (a + i)) 0 b
 each_split F a b =

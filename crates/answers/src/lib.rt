@@ -3,26 +3,28 @@
 
 ghost use Rattle.exponential.specs.program.Table.{table};
 ghost use Rattle.janssen.specs.program.Pressure.{computed_by};
+ghost use Rattle.records.specs.Refusal.{answer};
 ghost use Rattle.answers.specs.Promise.{Promise};
 
-use sheet::Asked;
+use place::Places;
+use records::refusal::Refusal;
 
 pub mod fill; // the answer list, part by part
 pub mod length; // the call that tells its length
 pub mod place; // where a number stands in the list
 
-// The load call: 0 with the list filled, or the number of the first refusal with the list as it was.
-pub fn loads(sheet: &[u8], answers: &mut [u32]) -> u32
-    ensures { Promise computed_by table sheet.now answers.old result answers.new }
+// The load call: the list filled, or the first refusal with the list as it was.
+#[tactic(auto, using(crate::proofs::LengthLaws::described_due))]
+pub fn loads(sheet: &[u8], answers: &mut [u32]) -> Result<(), Refusal>
+    ensures { Promise computed_by table sheet.now answers.old (answer result) answers.new }
 {
-    let judged = sheet::examine(Asked::Loads, sheet, 0);
-    if judged.refused != 0 {
-        return judged.refused;
+    let accepted = sheet::accept(sheet, 0)?;
+    let described = &accepted.described;
+    let depths = described.depths.count;
+    let places = Places { depths };
+    if answers.len() != places.length_due(described.wall.count) {
+        return Err(Refusal::ListLength);
     }
-    let described = judged.described;
-    if answers.len() != length::length_due(described.depths.count, described.wall.count) {
-        return 14;
-    }
-    fill::fill(sheet, described, answers);
-    0
+    fill::fill(&accepted, answers);
+    Ok(())
 }

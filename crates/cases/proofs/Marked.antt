@@ -25,7 +25,7 @@ use Rattle.records.specs.Rules.{◌unless◌, first_unmet}
 use Rattle.records.proofs.Chain.{apart, skipped}
 use Rattle.description.specs.Silo.{section_of, product_sent, product_of, factor_read, eccentricities_of, bottom_of, strake_count, strakes_of, depth_count, depths_of, sum, V_of, headroom_of, h_of}
 use Rattle.sheet.specs.Refusal.{sides_met, proportion_met, strakes_met, depths_met, value_rules, rules_with, length_refusal, refusal_of}
-use Rattle.sheet.proofs.Layouts.{layout_numbered}
+use Rattle.records.proofs.Fine.{layout_numbered}
 use Rattle.answers.specs.Length.{length_due}
 use Rattle.answers.specs.Length.{told}
 use Rattle.cases.specs.Cases.{behind_section, case_sheet, rectangle_sheet, case_product, case_silo, middle_number, OfHeight, Marked}

@@ -1,6 +1,6 @@
 -- Document 01, "Cases": those marked (m), as one statement; of document 02 those of C-11, C-13, C-14
 -- and C-17. A circle of 5,000, γ 9,000, Ks 50, depths 0 and 5,000.
-use Rattle.std.specs.Prelude.{ℕ, List, [], ◌∷◌, ◌++◌, ◌⊎◌, true, false, ◌≡◌, take}
+use Rattle.std.specs.Prelude.{ℕ, List, [], ◌∷◌, ◌++◌, ◌⊎◌, true, false, ◌≡◌, take, Ok}
 use Rattle.fraction.specs.Fraction.{whole, ◌⪯◌}
 use Rattle.janssen.specs.Section.{d_c}
 use Rattle.janssen.specs.declared.Section.TheVariants.{Circle}
@@ -17,7 +17,6 @@ use Rattle.loads.specs.Load.{load_number}
 use Rattle.loads.specs.Load.Load.{listed_depth, p_hf, p_wf, p_vf, P_w, p_he, p_we, p_p}
 use Rattle.loads.specs.Holds.{Holds}
 use Rattle.sheet.specs.Refusal.{value_rules, refusal_of}
-use Rattle.answers.specs.declared.length.Length.TheVariants.{Due}
 use Rattle.answers.specs.Length.{answers_length}
 use Rattle.answers.specs.Answers.{silo_of}
 use Rattle.answers.specs.Promise.{Promise}
@@ -125,7 +124,7 @@ pub record Marked (f : List ℕ → FillingNumbers) (t : List ℕ) : Type 0 wher
   -- sides of 5,000 and 15,000 accepted, 5,000 and 15,001 give 20, either side first; the length of their lists is told (document 02, C-17)
   pub three_times : (refusal_of (rectangle_sheet 5000 15000) ≡ 0) × (refusal_of (rectangle_sheet 15000 5000) ≡ 0)
   pub over_three_times : (refusal_of (rectangle_sheet 5000 15001) ≡ 20) × (refusal_of (rectangle_sheet 15001 5000) ≡ 20)
-  pub length_told : (answers_length (rectangle_sheet 5000 15001) ≡ Due 31) × (answers_length (rectangle_sheet 15001 5000) ≡ Due 31)
+  pub length_told : (answers_length (rectangle_sheet 5000 15001) ≡ Ok 31) × (answers_length (rectangle_sheet 15001 5000) ≡ Ok 31)
   -- e 1,250 accepted, 1,251 gives 8, as e_i and as e_o; r 1,000 with H 364 accepted, H 363 gives 9
   pub e_1250 : (refusal_of (case_sheet 40 140 1250 0 0 0 five) ≡ 0) × (refusal_of (case_sheet 40 140 0 1250 0 0 five) ≡ 0)
   pub e_1251 : (refusal_of (case_sheet 40 140 1251 0 0 0 five) ≡ 8) × (refusal_of (case_sheet 40 140 0 1251 0 0 five) ≡ 8)

@@ -1,11 +1,15 @@
 // The catalogue of products: table 7.1 of source 001.
 #![tactic(auto)]
 
-ghost use Rattle.std.specs.Prelude.{◌≡◌, ◌+◌, ◌/◌, ◌%◌, ◌<◌, length, set};
+ghost use Rattle.std.specs.Prelude.{◌≡◌, ◌<◌, ◌≤◌, length, MatchResult};
+ghost use Rattle.records.specs.Refusal.{answer};
+ghost use Rattle.records.specs.declared.refusal.Refusal.TheVariants.{NoSuchMaterial};
 ghost use Rattle.records.specs.Rules.{first_unmet};
+ghost use Rattle.catalogue.specs.program.Wall.{wall_number};
 ghost use Rattle.catalogue.specs.Table.{row_of, product_for, record_of, catalogue_rules, catalogue_after};
 
 use janssen::Product;
+use records::refusal::Refusal;
 
 // A row of the table.
 #[derive(Clone, Copy)]
@@ -95,66 +99,94 @@ const MATERIALS: [Material; 10] = [
     },
 ];
 
-fn table_row(row: usize) -> Material
-    requires { row < 10 }
-    ensures { result ≡ row_of row }
+// The row of the table, counted from 0.
+#[tactic(auto, unfolding(crate::specs::Table::row_of, crate::specs::Table::materials))]
+fn row_of(row: u32) -> Result<Material, Refusal>
+    ensures { MatchResult result (λ m. (row ≤ 9) × (m ≡ row_of row)) (λ refusal. (9 < row) × (refusal ≡ NoSuchMaterial)) }
 {
-    MATERIALS[row]
+    MATERIALS
+        .get(row as usize)
+        .copied()
+        .ok_or(Refusal::NoSuchMaterial)
+}
+
+// What the silo's wall is made of.
+#[derive(Clone, Copy, Debug, PartialEq, Eq)]
+enum Wall {
+    Steel,
+    Concrete,
 }
 
 // Wall 0 is steel, wall 1 concrete.
-fn product_on(m: Material, wall: u32) -> Product
-    ensures { result ≡ product_for m wall }
-{
-    if wall == 0 {
-        return Product {
-            weight: m.weight,
-            ratio: m.ratio,
-            friction: m.steel,
-            factor: m.factor,
-        };
+impl TryFrom<u32> for Wall {
+    type Error = Refusal;
+
+    ghost try_from_gives = { λ n r. MatchResult r (λ wall. n ≡ wall_number wall) (λ refusal. (1 < n) × (refusal ≡ NoSuchMaterial)) };
+
+    fn try_from(n: u32) -> Result<Wall, Refusal> {
+        match n {
+            0 => Ok(Wall::Steel),
+            1 => Ok(Wall::Concrete),
+            _ => Err(Refusal::NoSuchMaterial),
+        }
     }
+}
+
+// The product of a row on a wall.
+#[tactic(auto, unfolding(crate::specs::Table::product_for))]
+fn product_on(m: Material, wall: Wall) -> Product
+    ensures { result ≡ product_for m (wall_number wall) }
+{
     Product {
         weight: m.weight,
         ratio: m.ratio,
-        friction: m.concrete,
+        friction: match wall {
+            Wall::Steel => m.steel,
+            Wall::Concrete => m.concrete,
+        },
         factor: m.factor,
     }
 }
 
-// Stores a number in two bytes, little-endian.
-fn store_two(buffer: &mut [u8], at: usize, n: u64)
-    requires { at + 1 < length buffer.old }
-    ensures { buffer.new ≡ set (set buffer.old at (n % 256)) (at + 1) (n / 256 % 256) }
+// The product record: payload length 10, kind 3, γ in four bytes, Ks, μ and C0 in two each, little-endian.
+#[tactic(auto, unfolding(crate::specs::Table::record_of))]
+fn record_of(p: Product) -> [u8; 14]
+    ensures { result ≡ record_of p }
 {
-    buffer[at] = (n % 256) as u8;
-    buffer[at + 1] = (n / 256 % 256) as u8;
+    let weight = p.weight.to_le_bytes();
+    let ratio = p.ratio.to_le_bytes();
+    let friction = p.friction.to_le_bytes();
+    let factor = p.factor.to_le_bytes();
+    [
+        10,
+        0,
+        3,
+        0,
+        weight[0],
+        weight[1],
+        weight[2],
+        weight[3],
+        ratio[0],
+        ratio[1],
+        friction[0],
+        friction[1],
+        factor[0],
+        factor[1],
+    ]
 }
 
-// Writes the product record: payload length 10, kind 3, γ, Ks, μ and C0.
-fn write_record(buffer: &mut [u8], p: Product)
-    requires { length buffer.old ≡ 14 }
-    ensures { buffer.new ≡ record_of p }
+// The product record of a row for a wall, written; or the refusal, no such row or wall before another length, with the buffer as it was. Row and wall are the
+// numbers of the C interface.
+#[tactic(auto, unfolding(crate::specs::Table::catalogue_after, crate::specs::Table::catalogue_rules, records::specs::Rules::first_unmet))]
+pub fn catalogue(row: u32, wall: u32, buffer: &mut [u8]) -> Result<(), Refusal>
+    ensures answer { answer result ≡ first_unmet (catalogue_rules row wall (length buffer.old)) }
+    ensures buffer { buffer.new ≡ catalogue_after row wall buffer.old }
 {
-    store_two(buffer, 0, 10);
-    store_two(buffer, 2, 3);
-    store_two(buffer, 4, p.weight);
-    store_two(buffer, 6, p.weight / 65536);
-    store_two(buffer, 8, p.ratio);
-    store_two(buffer, 10, p.friction);
-    store_two(buffer, 12, p.factor);
-}
-
-// 0, with the product record of a row for a wall written; or 15 or 16, with the buffer as it was.
-pub fn catalogue(row: u32, wall: u32, buffer: &mut [u8]) -> u32
-    ensures { (result ≡ first_unmet (catalogue_rules row wall (length buffer.old))) × (buffer.new ≡ catalogue_after row wall buffer.old) }
-{
-    if !((row <= 9) & (wall <= 1)) {
-        return 15;
-    }
+    let material = row_of(row)?;
+    let wall = Wall::try_from(wall)?;
     if buffer.len() != 14 {
-        return 16;
+        return Err(Refusal::RecordLength);
     }
-    write_record(buffer, product_on(table_row(row as usize), wall));
-    0
+    buffer.copy_from_slice(&record_of(product_on(material, wall)));
+    Ok(())
 }

@@ -1,4 +1,4 @@
-// The cosines of 0 to 90 degrees, in billionths. The table is named once for a call, where the list is filled, and lent down.
+// The cosines of 0 to 90 degrees, in billionths.
 #![tactic(auto)]
 
 ghost use Rattle.std.specs.Prelude.{◌≡◌, ◌<◌, ◌≤◌};
@@ -20,17 +20,18 @@ pub const ENTRIES: [u32; 91] = [
     17452407, 0,
 ];
 
-// What the constant holds.
-pub fn entries() -> [u32; 91]
-    ensures { (result ≡ table) × CosineTable entry }
+// The entries: read in place, never copied.
+pub fn entries() -> &'static [u32; 91]
+    ensures { (result.now ≡ table) × CosineTable entry }
 {
-    ENTRIES
+    &ENTRIES
 }
 
 // The cosine of so many degrees, in billionths.
-pub fn entry(entries: &[u32; 91], degrees: usize) -> u64
-    requires { (entries.now ≡ table) × (degrees < 91) }
+#[tactic(auto, using(crate::proofs::CosineLaws::entry_most), unfolding(crate::specs::program::Table::entry))]
+pub fn entry(degrees: usize) -> u64
+    requires { degrees < 91 }
     ensures { (result ≡ entry degrees) × (result ≤ 1000000000) }
 {
-    entries[degrees] as u64
+    entries()[degrees] as u64
 }

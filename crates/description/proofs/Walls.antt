@@ -9,11 +9,13 @@ use native.Mathlib.Numerals.{add-one}
 use native.Mathlib.Omega.{arith}
 use lib.ListN.{length, take, drop, replicate, length-append, length-replicate}
 use lib.Seq.{sets, sets-eq, take_at}
-use Rattle.records.specs.Format.{u16}
+use Rattle.records.specs.Rules.{first_unmet}
+use Rattle.records.specs.Format.{u16, layout_rules}
 use Rattle.description.specs.Silo.{strake_count, strakes_of, sum, edge_of}
 use Rattle.description.specs.program.Described.{wall_of}
 use Rattle.description.specs.program.Wall.{wall_top, wall_lowered, wall_after}
 use Rattle.description.proofs.Sums.{sum_next}
+use Rattle.records.proofs.Fine.{strakes_few}
 use Rattle.records.proofs.Numbers.{numbers_length}
 
 zeros : ℕ → List ℕ
@@ -28,6 +30,11 @@ drop_zeros (suc k) (suc n) = let e : n - k ≡ suc n - suc k = omega arith in dr
 pub strakes_length : (s : List ℕ) → length (strakes_of s) ≡ strake_count s
 unfolding strakes_of
 strakes_length s = numbers_length (u16 s) 2 _ (strake_count s)
+
+-- no rule on the records allows more
+pub strakes_most : (s : List ℕ) → first_unmet (layout_rules s) ≡ 0 → strake_count s ≤ 24
+unfolding strake_count
+strakes_most s met = omega (arith, strakes_few s met)
 
 pub heights_filled : (s : List ℕ) → strake_count s ≤ 24 → sets (replicate 24 0) 0 (strakes_of s) ≡ strakes_of s ++ replicate (24 - strake_count s) 0
 unfolding zeros

@@ -1,3 +1,2 @@
-pub mod Pair
 pub mod Described
 pub mod Wall

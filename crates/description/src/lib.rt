@@ -1,13 +1,14 @@
 // The silo that a sheet describes: the values of its records. Document 01, "Sheet"; document 02, C-13.
 #![tactic(auto)]
 
-ghost use Rattle.std.specs.Prelude.{◌≡◌, ◌+◌, ◌<◌, ◌≤◌, length};
-ghost use Rattle.records.specs.program.Reader.{Located};
-ghost use Rattle.description.specs.Silo.{strake_count};
+ghost use Rattle.std.specs.Prelude.{◌≡◌, ◌+◌, ◌*◌, ◌<◌, ◌≤◌, length, take};
+ghost use Rattle.records.specs.Format.{u32};
 ghost use Rattle.description.specs.program.Described.{described_of, Sized};
 ghost use Rattle.description.specs.program.Wall.{wall_lowered, wall_top};
 
 use janssen::{Product, Section};
+use records::bytes::four_bytes;
+use records::places::Records;
 
 pub mod values; // the values that the records hold
 
@@ -25,7 +26,7 @@ pub struct Bottom {
     pub run: u64,
 }
 
-// 1 to 24 strakes, top first, with their count; mm. The places past the count are 0.
+// 1 to 24 strakes, top first, with their count; mm. The places past the count are 0. An array with a count is the form that document 01 asks for.
 #[derive(Clone, Copy)]
 pub struct Wall {
     pub heights: [u64; 24],
@@ -61,29 +62,44 @@ pub struct Described {
     pub headroom: u64,
 }
 
-// The silo that a sheet describes whose records begin at these places.
-pub fn describe(sheet: &[u8], places: &[usize; 7]) -> Described
-    requires { Located sheet.now places.now × (length sheet.now ≤ 1024) × (strake_count sheet.now ≤ 24) }
-    ensures { (result ≡ described_of sheet.now) × Sized result }
+// The silo that a sheet's records describe.
+pub fn describe(records: &Records) -> Described
+    ensures { (result ≡ described_of records.now.sheet.now) × Sized result }
 {
-    let last = places[5];
-    let end = places[6];
     Described {
-        section: values::read_section(sheet, places[0]),
-        product: values::read_product(sheet, places[1]),
-        eccentricities: values::read_eccentricities(sheet, places[2]),
-        bottom: values::read_bottom(sheet, places[3]),
-        wall: values::read_wall(sheet, places[4], last),
-        depths: Depths {
-            start: last + 4,
-            count: values::payload_bytes(last, end) / 4,
-        },
-        headroom: values::read_headroom(sheet, end),
+        section: values::read_section(records),
+        product: values::read_product(records),
+        eccentricities: values::read_eccentricities(records),
+        bottom: values::read_bottom(records),
+        wall: values::read_wall(records),
+        depths: values::read_depths(records),
+        headroom: values::read_headroom(records),
+    }
+}
+
+impl Wall {
+    // The strakes, top first, mm.
+    pub fn strakes(&self) -> &[u64]
+        requires { self.now.count ≤ length self.now.heights }
+        ensures { result.now ≡ take self.now.count self.now.heights }
+    {
+        &self.heights[..self.count]
+    }
+}
+
+impl Depths {
+    // The depth at an index, mm below the brim, read from the sheet.
+    pub fn read(self, sheet: &[u8], index: usize) -> u64
+        requires { (self.start ≤ 1024) × (self.count ≤ 1024) × (index < self.count) }
+        ensures { (result ≡ u32 sheet.now (self.start + 4 * index)) × (result < 4294967296) }
+    {
+        four_bytes(sheet, self.start + 4 * index)
     }
 }
 
 impl WallState {
     // The brim, before the first strake.
+    #[tactic(auto, unfolding(crate::specs::program::Wall::wall_top))]
     pub fn top() -> Self
         ensures { result ≡ wall_top }
     {
@@ -91,6 +107,7 @@ impl WallState {
     }
 
     // The state after the next strake, of this height, with its lower edge.
+    #[tactic(auto, unfolding(crate::specs::program::Wall::wall_lowered))]
     pub fn lowered(self, height: u64) -> Self
         requires { (self.passed < 24) × (self.edge + height < 4294967296) }
         ensures { result ≡ wall_lowered height self }

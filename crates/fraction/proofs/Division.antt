@@ -3,24 +3,16 @@
 use Prim.Native.Nat.{ℕ, ◌+◌, ◌*◌, ◌/◌, ◌%◌, ◌^◌, ◌≤◌, ◌<◌}
 use mathlib.Core.Path.{◌≡◌, sym, ◌∙◌, ap}
 use native.Mathlib.Omega.{arith}
-use native.Mathlib.Nat.{div-add-mod', mul-le-mul, mul-le-mul_left, mul-le-mul_right, le_of_mul-le-mul_right, mul-add-div_right, div-le_of_le-mul, pow-le-pow_right, pow-suc, le_of_lt}
-use lib.Arith.{digits_div}
+use native.Mathlib.Nat.{div-add-mod', mul-le-mul, mul-le-mul_left, le_of_mul-le-mul_right, mul-add-div_right, div-le_of_le-mul, pow-le-pow_right, pow-suc, le_of_lt}
 use Rattle.fraction.specs.Fraction.{◌⊘◌, up}
 use Rattle.fraction.proofs.Up.{up_unique, up_whole, up_nest}
 
 module _ (n d whole rest : ℕ) (split : whole * d + rest ≡ n) (small : rest < d) where
-  pub down_of : n / d ≡ whole
-  down_of = rw (← split) (digits_div whole small)
-
   pub up_exact : rest ≡ 0 → up (n ⊘ d) ≡ whole
   up_exact e = up_unique n d whole (omega arith) (omega arith) (omega arith)
 
   pub up_next : 0 < rest → up (n ⊘ d) ≡ whole + 1
   up_next e = up_unique n d (whole + 1) (omega arith) (omega arith) (omega arith)
-
--- a rest of b-fold weight gives a digit below b
-pub digit_lt : (rest b d : ℕ) → rest < d → rest * b / d ≤ b
-digit_lt rest b d h = div-le_of_le-mul d (mul-le-mul_right b (omega arith))
 
 -- the digits before the last leave room for one more
 pub room : (n d whole rest i count : ℕ) → 0 < d → i < count → whole * d + rest ≡ n * 2048 ^ i → n * 2048 ^ count ≤ d * 2 ^ 62 →
@@ -51,7 +43,3 @@ digit_product x n hx hn = omega (arith, mul-le-mul hx (le_of_lt hn))
 -- the high digit of t·n/d, where n is at most d
 pub high_digit : (x n d : ℕ) → x ≤ 2 ^ 20 → n ≤ d → x * n / d ≤ 2 ^ 20
 high_digit x n d hx hn = div-le_of_le-mul d (omega (arith, mul-le-mul hx hn))
-
--- the whole part of a quotient bounded by k
-pub whole_bound : (d whole rest n k : ℕ) → 0 < d → whole * d + rest ≡ n → n ≤ d * k → whole ≤ k
-whole_bound d whole rest n k hd e h = le_of_mul-le-mul_right {k = d} (omega arith) hd

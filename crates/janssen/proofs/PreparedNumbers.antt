@@ -10,7 +10,7 @@ use Rattle.janssen.specs.declared.Prepared.{Prepared}
 use Rattle.janssen.specs.Section.{side_a, side_b}
 use Rattle.janssen.specs.Filling.{Grain, Kind, factors, q, z0, P}
 use Rattle.janssen.specs.Filling.Kind.{horizontal, vertical, wall_friction}
-use Rattle.janssen.specs.program.Range.{Within, InRange}
+use Rattle.janssen.specs.program.Range.{InRange}
 use Rattle.janssen.specs.program.Pressure.{step, limit, z0_scaled}
 use Rattle.janssen.specs.program.Prepare.{prepared_for}
 use Rattle.janssen.proofs.Geometry.{q_top, q_bottom, q_bottom_pos, q_pos, q_is, P_top, P_bottom, P_bottom_pos, P_pos, P_is, z0_pos, z0_is, q_top_pos}
@@ -44,44 +44,9 @@ module _ (s : Section) (p : Grain) (i : InRange s p) where
       (q_top_pos s p i)
       (omega (arith, z0_is s p i))
 
--- the sizes of the numbers on the way
-side_sizes : {a b : ℕ} → Within 500 50000 a → Within 500 50000 b → (250000 ≤ a * b) × (a * b ≤ 2500000000)
-side_sizes ha hb = (mul-le-mul ha.least hb.least, mul-le-mul ha.most hb.most)
-
-pub step_sizes : {row both a b : ℕ} → (row ≤ 529) × (both ≤ 10000) × Within 500 50000 a × Within 500 50000 b →
-    (250000 ≤ a * b) × (a * b ≤ 2500000000) × (row * both ≤ 5290000) × (row * both * (a + b) ≤ 529000000000)
-step_sizes {row} {both} {a} {b} (hr, hc, ha, hb) =
-    let s : a + b ≤ 100000 = omega (arith, ha.most, hb.most) in
-    let area = side_sizes ha hb in
-    (area.0, area.1, mul-le-mul hr hc, mul-le-mul (mul-le-mul hr hc) s)
-
-pub limit_sizes : {times over by weight a b : ℕ} →
-    (times ≤ 500) × Within 1 2000 over × Within 1 10000 by × (weight ≤ 30000) × Within 500 50000 a × Within 500 50000 b →
-    (a * b ≤ 2500000000) × (weight * (a * b) ≤ 75000000000000) × (times * (weight * (a * b)) ≤ 37500000000000000) ×
-    ((a + b) * by ≤ 1000000000) × (over * ((a + b) * by) ≤ 2000000000000) × (1000 ≤ over * ((a + b) * by))
-limit_sizes {times} {over} {by} {weight} {a} {b} (ht, ho, hy, hw, ha, hb) =
-    let s : a + b ≤ 100000 = omega (arith, ha.most, hb.most) in
-    let l : 1000 ≤ a + b = omega (arith, ha.least, hb.least) in
-    let area = (side_sizes ha hb).1 in (
-      area,
-      mul-le-mul hw area,
-      mul-le-mul ht (mul-le-mul hw area),
-      mul-le-mul s hy.most,
-      mul-le-mul ho.most (mul-le-mul s hy.most),
-      mul-le-mul ho.least (mul-le-mul l hy.least),
-    )
-
-pub z0_sizes : {both a b : ℕ} → Within 1 10000 both × Within 500 50000 a × Within 500 50000 b →
-    (a * b ≤ 2500000000) × (529 * both * (a + b) ≤ 529000000000) × (529000 ≤ 529 * both * (a + b))
-z0_sizes {both} {a} {b} (hc, ha, hb) =
-    let l : 1000 ≤ a + b = omega (arith, ha.least, hb.least) in
-    let s = step_sizes {row = 529} (omega arith, hc.most, ha, hb) in
-    (s.1, s.3, mul-le-mul {n₁ = 529} {m₁ = 1000} (omega (arith, hc.least)) l)
-
--- Ks·μ, in 1/10,000
-pub both_within : {s : Section} {p : Grain} → InRange s p → (1 ≤ p.ratio * p.friction) × (p.ratio * p.friction ≤ 10000)
-both_within i =
-    (omega (arith, mul-le-mul i.Ks_in.least i.μ_in.least), omega (arith, mul-le-mul i.Ks_in.most i.μ_in.most))
+-- the greatest number on the way
+pub weighed_most : {times weight a b : ℕ} → times ≤ 500 → weight ≤ 30000 → a ≤ 50000 → b ≤ 50000 → times * (weight * (a * b)) ≤ 37500000000000000
+weighed_most ht hw ha hb = mul-le-mul ht (mul-le-mul hw (mul-le-mul ha hb))
 
 -- the numbers from the calls are those of the definitions
 pub prepared_are : (s : Section) (p : Grain) → InRange s p → (a b s₁ l₁ s₂ l₂ s₃ l₃ z₀ : ℕ) → a ≡ side_a s → b ≡ side_b s →

@@ -11,6 +11,10 @@ use borrow.Author.Tests.{eq-eqb, ne_eqb, le-leb}
 use lib.Dec.{leb}
 use lib.ListN.{length, take, drop, set, length-append}
 use lib.Seq.{sets, sets-eq, take_at}
+use Rattle.std.specs.Prelude.{Result, Ok, Err}
+use Rattle.std.specs.Result.{result_unwrap_or}
+use Rattle.records.specs.declared.refusal.Refusal.{Refusal}
+use Rattle.records.specs.Refusal.{numbered}
 use Rattle.text.specs.Text.{ascii, line_feed, digit}
 use Rattle.text.proofs.Fields.{single, double}
 use Rattle.records.specs.Rules.{◌unless◌, first_unmet}
@@ -18,8 +22,6 @@ use Rattle.exponential.specs.program.Table.{table}
 use Rattle.janssen.specs.program.Pressure.{computed_by, computed}
 use Rattle.sheet.specs.Refusal.{length_refusal, refusal_of}
 use Rattle.sheet.proofs.Chains.{accepted_measured, refusal_small}
-use Rattle.answers.specs.declared.length.Length.{Length}
-use Rattle.answers.specs.declared.length.Length.TheVariants.{Due, Refused}
 use Rattle.answers.proofs.LengthLaws.{told_due}
 use Rattle.page.specs.Page.{page, page_due, page_length, page_rules}
 use Rattle.page.specs.Promise.{PagePromise}
@@ -81,12 +83,13 @@ at_start text behind out r e f =
     ((omega (arith, e, ap length f, length-append text behind), e ∙ sym (ap length t)), t)
 
 -- ---- the length told for an accepted sheet
-abbrev pub told_number : Length → ℕ
-told_number (Due n) = n
-told_number (Refused r) = 0
+length_in : Result ℕ ℕ → ℕ
+length_in r = result_unwrap_or r 0
 
-pub told_of_page : (s : List ℕ) (l : Length) → l ≡ page_length s → refusal_of s ≡ 0 → told_number l ≡ page_due s
-told_of_page s l e h = ap told_number (e ∙ told_due (length_refusal s) (page_due s) (accepted_measured s h))
+pub told_of_page : (s : List ℕ) (told : Result ℕ Refusal) → numbered told ≡ page_length s → refusal_of s ≡ 0 → result_unwrap_or told 0 ≡ page_due s
+unfolding length_in
+told_of_page s (Ok n) e h = ap length_in (e ∙ told_due (length_refusal s) (page_due s) (accepted_measured s h))
+told_of_page s (Err r) e h = ap length_in (e ∙ told_due (length_refusal s) (page_due s) (accepted_measured s h))
 
 -- ---- what the program prints, at the start of the buffer that the page call was lent and left
 module _ (s lent left : List ℕ) (r : ℕ) (room : 16384 ≤ length lent) (p : PagePromise computed_by table s lent r left) where

@@ -11,7 +11,6 @@ ghost use Rattle.sheet.specs.Refusal.{refusal_of};
 ghost use Rattle.page.specs.Page.{page_due};
 ghost use Rattle.load_page.specs.Reply.{refused_text, printed};
 
-use answers::length::Length;
 use std::io;
 use std::io::Read;
 
@@ -24,12 +23,13 @@ fn digit_of(n: u32) -> u8
 }
 
 // REFUSED, a space, the number and a line feed, from the buffer's start; how many bytes they are.
+// Not by `write!`: its contract tells the text only where it answers Ok, and not that it does where there is room.
 fn put_refused(out: &mut [u8], n: u32) -> usize
     requires { (n < 100) × (11 ≤ length out.old) }
     ensures count { result ≡ length (refused_text n) }
     ensures text { out.new ≡ sets out.old 0 (refused_text n) }
 {
-    text::put_text(out, 0, b"REFUSED ");
+    out[..8].copy_from_slice(b"REFUSED ");
     if n < 10 {
         out[8] = digit_of(n);
         out[9] = b'\n';
@@ -42,13 +42,11 @@ fn put_refused(out: &mut [u8], n: u32) -> usize
 }
 
 // How many bytes the page of a sheet that is not refused has.
+#[tactic(auto, using(crate::proofs::Texts::told_of_page))]
 fn page_bytes(sheet: &[u8]) -> usize
     ensures { refusal_of sheet.now ≡ 0 → result ≡ page_due sheet.now }
 {
-    match page::page_length(sheet) {
-        Length::Due(length) => length as usize,
-        Length::Refused(_) => 0,
-    }
+    page::page_length(sheet).unwrap_or(0) as usize
 }
 
 // The text for a sheet, at the start of a buffer that has room for the longest; how many bytes it has.
@@ -57,15 +55,14 @@ fn reply(sheet: &[u8], out: &mut [u8]) -> usize
     ensures count { IsPrefixLen result out.new }
     ensures text { take result out.new ≡ printed computed sheet.now }
 {
-    let refused = page::page(sheet, out);
-    let is_refused = refused != 0;
-    if is_refused {
-        return put_refused(out, refused);
+    match page::page(sheet, out) {
+        Ok(()) => page_bytes(sheet),
+        Err(refusal) => put_refused(out, refusal.into()),
     }
-    page_bytes(sheet)
 }
 
 // Reads until the buffer is full or the input ends; how many bytes it put at the buffer's start. A read that fails is no end.
+// Not by std's read_exact, which does not tell how many bytes came before the end, nor by read_to_end, which needs a heap.
 fn read_full<R: Read>(input: &mut R, buf: &mut [u8]) -> io::Result<usize>
     ensures { ReadsAtMost result buf.new }
 {

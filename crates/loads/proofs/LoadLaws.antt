@@ -1,7 +1,7 @@
 -- The numbers of the loads keep what is claimed of them: each its own law, from the band of the filling pressure that it rests on, and none
 -- falls with depth.
 use Prim.Native.Nat.{ℕ, zero, suc, ◌+◌, ◌*◌, ◌≤◌, ◌<◌}
-use mathlib.Core.Path.{◌≡◌, refl, ap, sym, subst}
+use mathlib.Core.Path.{◌≡◌, refl, sym, subst}
 use mathlib.Core.List.{◌∷◌, ◌++◌, map}
 use native.Mathlib.Omega.{arith}
 use borrow.Author.Tests.{eq-eqb, ne_eqb}
@@ -14,6 +14,7 @@ use Rattle.janssen.specs.Filling.Kind.{horizontal, vertical, wall_friction}
 use Rattle.janssen.specs.Numbers.{FillingNumbers}
 use Rattle.janssen.specs.program.Pressure.{filling, wall_load, computed}
 use Rattle.janssen.specs.program.Range.{InDepth}
+use Rattle.janssen.specs.declared.Prepared.{Prepared}
 use Rattle.janssen.specs.program.Prepare.{AllReach}
 use Rattle.janssen.proofs.Geometry.{d_c_positive, d_c_most}
 use Rattle.janssen.proofs.FillingLaws.{filling_band_two, filling_rises}
@@ -33,7 +34,7 @@ use Rattle.loads.specs.Load.{FillingLoad, load_depth, pressure_at, full_height, 
 use Rattle.loads.specs.Load.Load.{listed_depth, p_hf, p_wf, p_vf, P_w, p_he, p_we, p_p}
 use Rattle.loads.specs.Load.FillingLoad.{of_p_hf, of_p_wf, of_p_vf, of_P_w}
 use Rattle.loads.specs.Holds.{InBand, Holds, BottomHolds}
-use Rattle.loads.specs.program.Basis.{Reached, Fits, Sound}
+use Rattle.loads.specs.program.Basis.{Reached, Fits}
 
 -- the two shapes of the bottom
 pub bottom_flat : (f : FillingNumbers) (c : Silo) → c.run ≡ 0 → bottom_numbers f c ≡ magnified_load C_b (load_number f c p_vf c.foot) ∷ replicate 9 0
@@ -155,19 +156,17 @@ module _ (c : Silo) (fits : Fits c) where
             (P_t_allowance c.section (grain_of c.product) c.height c.run k x fits.range hr h fill);
       }
 
--- the basis of a silo that fits: its curves reach every depth, d_c leaves room for the patch, and the magnifiers are moderate
-module _ (b : Basis) (sound : Sound b) where
+-- what is worked out once for a silo: its curves reach every depth, d_c leaves room for the patch, and the magnifiers are moderate
+module _ (b : Basis) where
   pub prepared_reaches : (depth : ℕ) {at : ℕ} → at ≡ load_depth b.silo depth → Reached b.silo depth → AllReach b.prepared at
   prepared_reaches depth {at} e d =
-      subst (λ (x : Basis). AllReach x.prepared at) (sym sound.right)
-      (rw e (all_reach b.silo.section (grain_of b.silo.product) (load_depth b.silo depth) sound.fits.range d))
+      subst (λ (x : Prepared). AllReach x at) (sym b.prepared_is)
+      (rw e (all_reach b.silo.section (grain_of b.silo.product) (load_depth b.silo depth) b.fits.range d))
 
   pub dc_fits : (0 < b.dc) × (b.dc ≤ 50000) × (4 * b.silo.eccentricity ≤ b.dc)
   dc_fits =
-      let e : b.dc ≡ d_c b.silo.section = ap (λ (x : Basis). x.dc) sound.right in
-      (omega (arith, dc_positive b.silo sound.fits), omega (arith, dc_most b.silo sound.fits), omega (arith, sound.fits.eccentricity_most))
+      (omega (arith, b.dc_is, dc_positive b.silo b.fits), omega (arith, b.dc_is, dc_most b.silo b.fits), omega (arith, b.dc_is, b.fits.eccentricity_most))
 
   pub magnifiers_moderate : Moderate b.horizontal × Moderate b.friction
   magnifiers_moderate =
-      subst (λ (x : Basis). Moderate x.horizontal × Moderate x.friction) (sym sound.right)
-      (C_h_moderate b.silo sound.fits, C_w_moderate b.silo sound.fits)
+      (subst Moderate (sym b.horizontal_is) (C_h_moderate b.silo b.fits), subst Moderate (sym b.friction_is) (C_w_moderate b.silo b.fits))

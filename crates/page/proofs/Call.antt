@@ -10,6 +10,7 @@ use borrow.Author.Tests.{le-leb, lt-leb}
 use lib.Dec.{leb}
 use lib.ListN.{length, drop}
 use lib.Seq.{sets, sets-eq}
+use Rattle.std.specs.Prelude.{Ok, Err}
 use Rattle.records.specs.Rules.{◌unless◌, first_unmet}
 use Rattle.records.proofs.Fills.{fills_refused, fills_done}
 use Rattle.exponential.specs.program.Table.{table}
@@ -19,9 +20,9 @@ use Rattle.janssen.specs.program.Pressure.{computed_by, computed}
 use Rattle.description.specs.Silo.{depth_count}
 use Rattle.description.specs.declared.Described.{Described}
 use Rattle.description.specs.program.Described.{wall_of, described_of}
+use Rattle.sheet.specs.declared.accepted.AcceptedSheet.{AcceptedSheet}
 use Rattle.sheet.specs.Refusal.{refusal_of}
 use Rattle.sheet.proofs.Chains.{sheet_first, sheet_passed, call_never_13}
-use Rattle.answers.specs.declared.length.Length.TheVariants.{Due, Refused}
 use Rattle.answers.specs.Place.{load_place}
 use Rattle.answers.specs.Answers.{FilledBy}
 use Rattle.answers.specs.Columns.{row_place}
@@ -43,6 +44,10 @@ pub described_size : (s : List ℕ) (d : Described) (n : ℕ) → d ≡ describe
 unfolding page_due wall_of
 described_size s d n e f = f ∙ ap (λ (d : Described). page_size d.depths.count d.wall.count) e
 
+-- of the sheet lent, which is accepted
+pub accepted_size : {s : List ℕ} (a : AcceptedSheet) → a.sheet.now ≡ s → {n : ℕ} → n ≡ page_size a.described.depths.count a.described.wall.count → n ≡ page_due s
+accepted_size {s} a same e = described_size s a.described _ (a.silo ∙ ap described_of same) e
+
 -- what the page call answers for a buffer of n bytes: the sheet's refusal, or 18; never 13
 module _ (s : List ℕ) (n : ℕ) where
   pub page_never_13 : first_unmet (page_rules s n) ≡ 13 → ⊥
@@ -59,11 +64,11 @@ module _ (s : List ℕ) (n : ℕ) where
 
 -- beside its length call (document 02, C-17): the refusal that it answers, or 20; and 20 where it tells a length, for which the buffer has room
 module _ (f : List ℕ → FillingNumbers) (t s lent left : List ℕ) (r : ℕ) (p : PagePromise f t s lent r left) where
-  pub refused_or_20 : (k : ℕ) → page_length s ≡ Refused k → (r ≡ k) ⊎ (r ≡ 20)
+  pub refused_or_20 : (k : ℕ) → page_length s ≡ Err k → (r ≡ k) ⊎ (r ≡ 20)
   unfolding page_rules
   refused_or_20 = beside_refused s _ (page_due s) p.1.answer
 
-  pub measured_refused : (n : ℕ) → page_length s ≡ Due n → n ≤ length lent → (r ≡ 0 → ⊥) → r ≡ 20
+  pub measured_refused : (n : ℕ) → page_length s ≡ Ok n → n ≤ length lent → (r ≡ 0 → ⊥) → r ≡ 20
   unfolding page_rules first_unmet
   measured_refused n e room = beside_due s _ (page_due s) p.1.answer n e (λ o. simp (le-leb (page_due s) (length lent) (omega (arith, o, room))))
 

@@ -1,5 +1,4 @@
 pub mod Lines
-pub mod Prefix
 pub mod Room
 pub mod Named
 pub mod ReadBack

@@ -2,22 +2,22 @@
 -- page's length has room for every line.
 -- Assumes nothing.
 use Prim.Native.Nat.{ℕ, ◌+◌, ◌-◌, ◌*◌, ◌≤◌}
-use mathlib.Core.Path.{◌≡◌, ap}
+use mathlib.Core.Path.{◌≡◌, refl}
 use mathlib.Core.List.{List}
 use native.Mathlib.Omega.{arith}
 use lib.ListN.{length}
 use Rattle.janssen.specs.program.Pressure.{computed}
 use Rattle.description.specs.Silo.{depth_count}
-use Rattle.description.specs.declared.Described.{Described}
-use Rattle.description.specs.program.Described.{described_of}
+use Rattle.sheet.specs.declared.accepted.AcceptedSheet.{AcceptedSheet}
 use Rattle.sheet.specs.Refusal.{refusal_of}
-use Rattle.answers.specs.Place.{bottom_place}
+use Rattle.answers.specs.Place.{bottom_place, strake_place}
 use Rattle.answers.specs.Length.{length_due}
 use Rattle.answers.specs.program.Fill.{answers}
+use Rattle.answers.proofs.LengthLaws.{accepted_due}
 use Rattle.answers.proofs.Places.{length_answers, answers_filled}
 use Rattle.answers.proofs.Demand.{claim}
 use Rattle.answers.proofs.Digits.{nine_digits}
-use Rattle.answers.proofs.Whole.{depths_near, strakes_few, described_wall}
+use Rattle.answers.proofs.Whole.{depths_near, strakes_few}
 use Rattle.page.specs.Page.{page_due}
 use Rattle.page.proofs.Lines.{Few}
 
@@ -38,13 +38,11 @@ module _ (s : List ℕ) (h : refusal_of s ≡ 0) where
   unfolding length_due
   rows_inside = omega (arith, length_answers s)
 
-  -- the counts of the silo described
-  pub described_counts : (d : Described) → d ≡ described_of s → (d.depths.count ≡ depth_count s) × (d.depths.count ≤ 1024) × (d.wall.count ≤ 24)
-  described_counts d e =
-      let n : d.depths.count ≡ depth_count s = ap (λ (d : Described). d.depths.count) e in
-      (n, omega (arith, (depths_near s h).1), omega (arith, (described_wall s h d e).0, strakes_few s h))
-
   -- a page of 200 depths and 24 strakes has 15,013 bytes
   pub page_most : page_due s ≤ 16384
   unfolding page_due
   page_most = omega (arith, (depths_near s h).1, strakes_few s h)
+
+-- the length due lies inside the array
+pub list_inside : (a : AcceptedSheet) {n : ℕ} → n ≡ strake_place a.described.depths.count a.described.wall.count → n ≤ 1650
+list_inside a e = omega (arith, accepted_due a refl e, due_most a.sheet.now a.not_refused)

@@ -1,5 +1,5 @@
 -- The load page: a heading, a line for each depth, then the bottom's and the strakes' numbers, one a line. Document 02, C-15.
-use Rattle.std.specs.Prelude.{ℕ, suc, ◌+◌, ◌*◌, List, [], ◌∷◌, ◌++◌, map, leb, get_or}
+use Rattle.std.specs.Prelude.{ℕ, suc, ◌+◌, ◌*◌, List, [], ◌∷◌, ◌++◌, map, leb, get_or, Result}
 use Rattle.text.specs.Text.{ascii, line_feed, decimal, field}
 use Rattle.records.specs.Rules.{Rule, ◌unless◌}
 use Rattle.janssen.specs.Numbers.{FillingNumbers}
@@ -10,7 +10,6 @@ use Rattle.loads.specs.Load.{Load}
 use Rattle.loads.specs.Load.{eight, load_number, bottom_numbers}
 use Rattle.loads.specs.Load.Load.{listed_depth, p_hf, p_wf, p_vf, P_w, p_he, p_we, p_p}
 use Rattle.answers.specs.Each.{each}
-use Rattle.answers.specs.declared.length.Length.{Length}
 use Rattle.answers.specs.Length.{told}
 use Rattle.answers.specs.Answers.{silo_of, depth}
 
@@ -57,7 +56,7 @@ unfoldable pub page_due : List ℕ → ℕ
 page_due s = page_size (depth_count s) (strake_count s)
 
 -- what its length call answers
-abbrev pub page_length : List ℕ → Length
+abbrev pub page_length : List ℕ → Result ℕ ℕ
 page_length s = told (length_refusal s) (page_due s)
 
 -- the rules of the page call, lent a buffer of so many bytes: those of the sheet, then 18

@@ -1,7 +1,7 @@
 -- What the calls answer and leave: the call with a list in its four cases, refused for the sheet, for the pressures, for the list's length, or filled; and
 -- the single question, which is the call with this pressure alone.
 use Prim.Native.Nat.{ℕ, ◌≤◌, ◌<◌}
-use mathlib.Core.Path.{◌≡◌, refl, sym, ap, subst, ◌∙◌}
+use mathlib.Core.Path.{◌≡◌, refl, sym, ap, ◌∙◌}
 use mathlib.Core.Bool.{true, false}
 use mathlib.Core.List.{List, [], ◌∷◌}
 use native.Mathlib.Decide.{dec_le}
@@ -9,42 +9,32 @@ use native.Mathlib.Omega.{arith}
 use borrow.Author.Tests.{eq-eqb, ne_eqb, eqb-true, le-leb}
 use lib.Dec.{eqb}
 use lib.ListN.{length, get_or}
+use Rattle.std.specs.Prelude.{Ok, Err}
+use Rattle.records.specs.declared.refusal.Refusal.{Refusal}
+use Rattle.records.specs.Refusal.{number, numbered}
 use Rattle.records.specs.Rules.{◌unless◌, first_unmet}
 use Rattle.records.proofs.Fills.{fills_refused, fills_done}
 use Rattle.records.proofs.Chain.{met, apart}
 use Rattle.exponential.specs.program.Table.{table}
 use Rattle.exponential.proofs.TableLaws.{tabulated}
 use Rattle.janssen.specs.program.Pressure.{computed_by, computed}
-use Rattle.description.specs.declared.Described.{Described}
-use Rattle.description.specs.program.Described.{described_of}
 use Rattle.description.specs.Silo.{V_of}
 use Rattle.sheet.specs.Refusal.{sheet_rules, refusal_of}
 use Rattle.sheet.proofs.Chains.{sheet_first, sheet_passed, sheet_met, rules_numbered, call_never_13}
 use Rattle.sheet.proofs.Acceptance.{accepted}
 use Rattle.sheet.proofs.Described.{V_most}
-use Rattle.loads.specs.declared.Basis.{Basis}
-use Rattle.loads.specs.program.Basis.{basis_for, Sound}
 use Rattle.answers.specs.Answers.{silo_of}
 use Rattle.answers.specs.Length.{told, length_number}
-use Rattle.answers.specs.program.Fill.{silo_in, basis_of, answers}
+use Rattle.answers.specs.program.Fill.{answers}
 use Rattle.answers.proofs.Places.{answers_filled}
 use Rattle.answers.proofs.Demand.{claim}
-use Rattle.answers.proofs.Whole.{basis_described, basis_sound}
+use Rattle.answers.proofs.LengthLaws.{refused_by_name, due_answered}
 use Rattle.reach.specs.Reach.{p_he_of, Depths, never_falls_from, pressures_met, depths_rules}
 use Rattle.reach.specs.Promise.{Free, DepthPromise, DepthsPromise}
 
--- the basis of an accepted sheet serves, and the depths found by it are the sheet's
-module _ (s : List ℕ) (d : Described) (h : refusal_of s ≡ 0) (e : d ≡ described_of s) (b : Basis) (made : b ≡ basis_for (silo_in d)) where
-  of_sheet : b ≡ basis_of s
-  of_sheet = basis_described s d b e made
-
-  pub pass_asks : Sound b × (b.silo.foot < 131072)
-  pass_asks =
-      subst (λ (x : Basis). Sound x × (x.silo.foot < 131072)) (sym of_sheet) (basis_sound s h, omega (arith, V_most s (accepted s h).measured))
-
-  pub pass_of_sheet : (pressures list : List ℕ) → Depths (p_he_of computed b.silo) b.silo.foot pressures list
-      → Depths (p_he_of computed (silo_of s)) (V_of s) pressures list
-  pass_of_sheet pressures list x = subst (λ (x : Basis). Depths (p_he_of computed x.silo) x.silo.foot pressures list) of_sheet x
+-- the wall of an accepted sheet is under 2^17 mm
+pub foot_near : (s : List ℕ) → refusal_of s ≡ 0 → V_of s < 131072
+foot_near s h = omega (arith, V_most s (accepted s h).measured)
 
 -- what the documents leave free
 free : (s : List ℕ) → Free computed_by table s
@@ -115,6 +105,7 @@ one_refusal s p = at (dec_le (refusal_of s) 0)
     at (yes z) = let h : refusal_of s ≡ 0 = omega arith in depths_not_refused s (p ∷ []) 1 h (one_met p) refl ∙ sym h
     at (no z) = refused_depths s (p ∷ []) 1 (λ o. omega arith)
 
+-- asked alone: its refusals are the sheet's, and its depth is the one that the list has
 module _ (s : List ℕ) (p r : ℕ) (left : List ℕ) (x : DepthsPromise computed_by table s (p ∷ []) (0 ∷ []) r left) where
   same_refusal : r ≡ refusal_of s
   same_refusal = x.1.answer ∙ one_refusal s p
@@ -123,11 +114,9 @@ module _ (s : List ℕ) (p r : ℕ) (left : List ℕ) (x : DepthsPromise compute
   asked_alone =
       (x.0, (get_or left 0 0, ap (λ (k : ℕ). length_number (told k (get_or left 0 0))) same_refusal, λ h. (x.1.done (same_refusal ∙ h)).each 0 (omega arith)))
 
-  pub alone_small : get_or left 0 0 < 131072
-  alone_small = at (dec_le r 0)
-    where
-      at : Dec (r ≤ 0) → get_or left 0 0 < 131072
-      at (yes z) =
-          let h : r ≡ 0 = omega arith in
-          omega (arith, ((x.1.done h).each 0 (omega arith)).inside, V_most s (accepted s (sym same_refusal ∙ h)).measured)
-      at (no z) = rw (x.1.unchanged (λ o. omega arith)) (omega arith)
+  -- by name
+  pub refused_alone : (e : Refusal) → number e ≡ r → DepthPromise computed_by table s p (length_number (numbered (Err e)))
+  refused_alone e h = rw (refused_by_name r (get_or left 0 0) e h) asked_alone
+
+  pub found_alone : 0 ≡ r → DepthPromise computed_by table s p (length_number (numbered (Ok (get_or left 0 0))))
+  found_alone h = rw (due_answered r (get_or left 0 0) (get_or left 0 0) h refl) asked_alone

@@ -22,7 +22,7 @@ use Rattle.records.specs.Rules.{Rule}
 use Rattle.records.specs.Format.{record_rules, records_rules}
 use Rattle.records.proofs.Chain.{has, absent}
 use Rattle.sheet.specs.Refusal.{value_rules, rules_with, sheet_rules, refusal_of}
-use Rattle.sheet.proofs.Layouts.{by_count}
+use Rattle.records.proofs.Fine.{by_count}
 use Rattle.sheet.proofs.Acceptance.{accepted}
 use Rattle.sheet.proofs.Described.{edge_most}
 use Rattle.loads.specs.Load.{load_depth}

@@ -1,6 +1,6 @@
--- Halving the bracket: the middle goes to the side that it belongs to (`carried`, `not_carried`), a bracket of one depth is the answer (`closed`), and a
--- width below 2^n leaves n halvings (`halving`).
-use Prim.Native.Nat.{ℕ, zero, suc, ◌+◌, ◌-◌, ◌*◌, ◌/◌, ◌^◌, ◌≤◌, ◌<◌}
+-- Halving the bracket: the middle goes to the side that it belongs to (`carried`, `not_carried`), a bracket of one depth is the answer (`closed`), and i
+-- halvings leave a width below 2^(17 - i) (`halving`).
+use Prim.Native.Nat.{ℕ, suc, ◌+◌, ◌-◌, ◌*◌, ◌/◌, ◌^◌, ◌≤◌, ◌<◌}
 use mathlib.Core.Path.{◌≡◌}
 use native.Mathlib.Nat.{pow-suc}
 use native.Mathlib.Omega.{arith}
@@ -31,7 +31,8 @@ module _ (load : ℕ → ℕ) (foot p : ℕ) (b : Bracket) (x : Between load foo
   closed h =
       record { inside = omega (arith, x.order, x.inside); carries = x.carries; beyond = λ z g m. x.beyond z (omega arith) m }
 
--- a width below 2^left that is not 0 leaves a halving
-pub halving : (n n' left : ℕ) → n < 2 ^ left → 0 < n → 2 * n' ≤ n → (0 < left) × (n' < 2 ^ (left - 1))
-halving n n' zero less some half = absurd (omega arith)
-halving n n' (suc left) less some half = let e : suc left - 1 ≡ left = omega arith in (omega arith, rw e (omega (arith, pow-suc 2 left)))
+-- a width below 2^(most - i), and half of it
+pub halving : (n n' most i : ℕ) → i < most → n < 2 ^ (most - i) → 2 * n' ≤ n → n' < 2 ^ (most - (i + 1))
+halving n n' most i h less half =
+    let e : most - i ≡ suc (most - (i + 1)) = omega arith in
+    omega (arith, rw (e, pow-suc 2 (most - (i + 1))) at less)

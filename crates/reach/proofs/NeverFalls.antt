@@ -1,8 +1,13 @@
 -- Rule 21 in plain inequalities: met exactly by 1 to 32 pressures of which none is below the one before (`never_falls`, `meets_21`).
 use Prim.Native.Nat.{ℕ, zero, suc, ◌≤◌, ◌<◌}
-use mathlib.Core.Bool.{true}
+use mathlib.Core.Bool.{Bool, true, false}
+use Rattle.std.specs.List.{IsAllAdjacentAnswer}
+use Rattle.std.specs.Prelude.{Some}
+use Rattle.std.specs.Ordering.{is_le, is_some_and, nat_cmp}
+use Rattle.std.proofs.lemmas.List.Sorted.{non_decreasing_from_is_sorted}
 use mathlib.Core.List.{List, [], ◌∷◌}
-use mathlib.Core.Path.{◌≡◌, refl}
+use mathlib.Core.Path.{◌≡◌, refl, sym, ◌∙◌}
+use native.Mathlib.Numerals.{add-one}
 use native.Mathlib.Omega.{arith}
 use borrow.Author.Tests.{leb-true, le-leb}
 use lib.Dec.{leb}
@@ -25,6 +30,21 @@ unfolding never_falls_from
 back_below low [] h n = refl
 back_below low (p ∷ l) h n =
     rw (le-leb low p (h (omega arith))) (back_below p l (λ g. n 0 (omega (arith, g))) (λ i g. n (suc i) (omega (arith, g))))
+
+-- what `is_sorted` tells of 1 to 32 pressures
+rising : (l : List ℕ) (r : Bool) → IsAllAdjacentAnswer (λ x y b. is_some_and is_le (Some (nat_cmp x y)) ≡ b) l r → r ≡ never_falls_from 0 l
+rising l true a = sym (back_below 0 l (λ _. omega arith) (λ i h. non_decreasing_from_is_sorted l true a i (suc i) 0 (omega arith) h))
+rising l false a = at (never_falls_from 0 l) refl
+  where
+    at : (b : Bool) → never_falls_from 0 l ≡ b → false ≡ b
+    at true e =
+        let (k, inside, falls) = non_decreasing_from_is_sorted l false a in
+        absurd (omega (arith, from_below 0 l e k (omega (arith, inside)), rw add-one at (falls 0)))
+    at false e = refl
+
+pub sorted : (l : List ℕ) (r : Bool) → 1 ≤ length l → length l ≤ 32 → IsAllAdjacentAnswer (λ x y b. is_some_and is_le (Some (nat_cmp x y)) ≡ b) l r → r ≡ pressures_met l
+unfolding pressures_met
+sorted l r some few a = rising l r a ∙ sym (simp (le-leb 1 (length l) some, le-leb (length l) 32 few))
 
 pub never_falls : (l : List ℕ) → pressures_met l ≡ true → NeverFalls l
 unfolding pressures_met

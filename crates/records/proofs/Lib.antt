@@ -7,3 +7,6 @@ pub mod Numbers
 pub mod Stores
 pub mod Followed
 pub mod Written
+pub mod Fine
+pub mod Refusals
+pub mod Walks

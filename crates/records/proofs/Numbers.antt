@@ -15,6 +15,13 @@ module _ (read : ℕ → ℕ) (step : ℕ) where
   unfolding numbers
   numbers_next at n i l = let e : n - i ≡ suc (n - suc i) = omega arith in rw (add-one, e) refl
 
+  -- the same by the index alone
+  pub numbers_step : (start n i : ℕ) → i < n
+      → numbers read step (start + step * i) (n - i) ≡ read (start + step * i) ∷ numbers read step (start + step * (i + 1)) (n - (i + 1))
+  numbers_step start n i l =
+      let e : start + step * i + step ≡ start + step * (i + 1) = omega arith in
+      numbers_next (start + step * i) n i l ∙ ap (λ (m : ℕ). read (start + step * i) ∷ numbers read step m (n - (i + 1))) e
+
   pub numbers_end : (at n i : ℕ) → n ≤ i → numbers read step at (n - i) ≡ []
   unfolding numbers
   numbers_end at n i l = let e : n - i ≡ 0 = omega arith in rw e refl

@@ -3,7 +3,7 @@ use Prim.Native.Nat.{ℕ, zero, suc, ◌+◌, ◌-◌, ◌%◌, ◌≤◌, ◌<�
 use mathlib.Core.Bool.{true, cond, ◌&&◌}
 use mathlib.Core.List.{List}
 use mathlib.Core.Logic.{◌⊎◌, inl, inr, ⊎_elim}
-use mathlib.Core.Path.{◌≡◌, refl, sym, ◌∙◌, ap, subst}
+use mathlib.Core.Path.{◌≡◌, refl, ◌∙◌}
 use native.Mathlib.Decide.{dec_le, dec_lt}
 use native.Mathlib.Numerals.{add-one}
 use native.Mathlib.Omega.{arith}
@@ -12,10 +12,8 @@ use lib.Dec.{eqb}
 use lib.ListN.{length, get_or, set}
 use lib.Seq.{get_or-set_same, get_or-set_other}
 use Rattle.records.specs.Rules.{within, first_unmet}
-use Rattle.records.specs.Format.{u16, record_place, payload_length, kind_due, step_of, most_of, allowed, record_rules, records_rules, record_count}
-use Rattle.records.specs.program.Reader.{Stands}
-use Rattle.records.specs.declared.reader.Record.{Record}
-use Rattle.records.proofs.Tests.{absurd, both_true, either_true}
+use Rattle.records.specs.Format.{u16, record_place, kind_due, step_of, most_of, allowed, record_rules, records_rules, record_count}
+use Rattle.records.proofs.Tests.{both_true, either_true}
 use Rattle.records.proofs.Chain.{numbered, skipped, stopped}
 
 -- m bytes and no more
@@ -35,28 +33,12 @@ pub one_length : (t m n : ℕ) → step_of t ≡ m → most_of t ≡ m → m % m
 unfolding allowed
 one_length t m n a b whole = rw (a, b) (exactly m n whole)
 
--- the kinds of two numbers of four bytes: a rectangle, the eccentricities, the bottom
-pub pair_length : (t n : ℕ) → 0 < t → t < 9 → (t ≡ 1 → ⊥) → (t ≡ 3 → ⊥) → (t ≡ 6 → ⊥) → (t ≡ 7 → ⊥) → (t ≡ 8 → ⊥) → allowed t n ≡ eqb n 8
-pair_length zero n p l a b c d e = absurd (omega arith)
-pair_length (suc zero) n p l a b c d e = absurd (a refl)
-pair_length (suc (suc zero)) n p l a b c d e = one_length 2 8 n refl refl refl
-pair_length (suc (suc (suc zero))) n p l a b c d e = absurd (b refl)
-pair_length (suc (suc (suc (suc zero)))) n p l a b c d e = one_length 4 8 n refl refl refl
-pair_length (suc (suc (suc (suc (suc zero))))) n p l a b c d e = one_length 5 8 n refl refl refl
-pair_length (suc (suc (suc (suc (suc (suc zero)))))) n p l a b c d e = absurd (c refl)
-pair_length (suc (suc (suc (suc (suc (suc (suc zero))))))) n p l a b c d e = absurd (d refl)
-pair_length (suc (suc (suc (suc (suc (suc (suc (suc zero)))))))) n p l a b c d e = absurd (e refl)
-pair_length (suc (suc (suc (suc (suc (suc (suc (suc (suc t))))))))) n p l a b c d e = absurd (omega arith)
-
 -- a kind that is due: k + 2, or 1 for record 0
 pub due_cases : (k t : ℕ) → kind_due k t ≡ true → (t ≡ k + 2) ⊎ ((k ≡ 0) × (t ≡ 1))
 due_cases k t h =
     ⊎_elim (λ p. inl (eqb-true t (k + 2) p))
     (λ p. let q = both_true (eqb k 0) (eqb t 1) p in inr (eqb-true k 0 q.0, eqb-true t 1 q.1))
     (either_true (eqb t (k + 2)) (eqb k 0 && eqb t 1) h)
-
-pub due_kind : (k t : ℕ) → k < 7 → kind_due k t ≡ true → (0 < t) × (t < 9)
-due_kind k t l h = ⊎_elim (λ p. (omega (arith, p), omega (arith, p, l))) (λ p. (omega (arith, p.1), omega (arith, p.1))) (due_cases k t h)
 
 pub place_first : (s : List ℕ) → record_place s 0 ≡ 0
 unfolding record_place
@@ -67,26 +49,10 @@ pub place_next : (s : List ℕ) (k : ℕ) → record_place s (k + 1) ≡ record_
 unfolding record_place
 place_next s k = rw add-one refl
 
--- the payload of record k lies between its header and the record after it
-pub payload_between : (s : List ℕ) (k : ℕ) {at end : ℕ} → at ≡ record_place s k → end ≡ record_place s (k + 1) → (at + 4 ≤ end) × (end - at - 4 ≡ payload_length s k)
-unfolding payload_length
-payload_between s k p q = (omega (arith, p, q, place_next s k), omega (arith, p, q, place_next s k))
-
 -- no record begins behind the end of the last
 pub place_most : (s : List ℕ) (k n : ℕ) → record_place s k ≤ record_place s (k + n)
 place_most s k zero = let e : k + 0 ≡ k = omega arith in rw e (omega arith)
 place_most s k (suc n) = let e : k + suc n ≡ k + n + 1 = omega arith in rw e (omega (arith, place_most s k n, place_next s (k + n)))
-
--- a record that was read: it stands at the place that it says, and where record k begins, k + 1 begins at its end; its rules, said of record k
-pub stands_there : {s : List ℕ} {at : ℕ} {f : Record} → Stands s at f → Stands s f.place f
-stands_there {s} {at} {f} e = subst (λ (n : ℕ). Stands s n f) (sym e.placed) e
-
-pub ends_there : {s : List ℕ} (k : ℕ) {at : ℕ} {f : Record} → Stands s at f → at ≡ record_place s k → f.start + f.length ≡ record_place s (k + 1)
-ends_there {s} k e p = rw (e.started, e.sized, p) (sym (place_next s k))
-
-pub judged_there : (s : List ℕ) (k : ℕ) {at r : ℕ} → at ≡ record_place s k → r ≡ first_unmet (record_rules s at k)
-    → r ≡ first_unmet (record_rules s (record_place s k) k)
-judged_there s k e h = h ∙ ap (λ (n : ℕ). first_unmet (record_rules s n k)) e
 
 -- the places noted so far, and that of record k behind them
 pub noted : (s places : List ℕ) (k at : ℕ) → k < length places → at ≡ record_place s k → ((j : ℕ) → j < k → get_or places j 0 ≡ record_place s j)

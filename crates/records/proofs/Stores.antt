@@ -1,32 +1,22 @@
 -- Runs of stores: what is written part by part is what is written as a whole.
-use Prim.Native.Nat.{ℕ, suc, ◌+◌, ◌≤◌, ◌<◌}
-use mathlib.Core.List.{List, [], ◌∷◌, ◌++◌, append-nil}
-use mathlib.Core.Path.{◌≡◌, ◌∙◌}
-use native.Mathlib.Nat.{add-zero, add-suc, suc-add, zero-add}
-use native.Mathlib.Numerals.{add-one}
-use native.Mathlib.Omega.{arith}
-use lib.ListN.{length, get_or, drop, set, drop_of_length-le}
-use lib.Seq.{sets, sets-eq, drop-cons, drop-length}
-
--- a list stored from the front of another of its length takes its place
-pub sets_whole : (l vs : List ℕ) → length vs ≡ length l → sets l 0 vs ≡ vs
-sets_whole l vs e =
-    sets-eq vs l 0 (omega arith)
-    ∙ rw (zero-add, e, drop-length) (append-nil vs)
+use Prim.Native.Nat.{ℕ, suc, ◌+◌, ◌≤◌}
+use mathlib.Core.List.{List, [], ◌∷◌, ◌++◌, append_assoc}
+use mathlib.Core.Path.{◌≡◌, refl, sym, ◌∙◌}
+use native.Mathlib.Nat.{add-zero, add-suc, suc-add}
+use lib.ListN.{length, take, drop, set}
+use lib.Seq.{sets, sets-eq}
+use borrow.Rule.Slice.PartMut.{put_mid}
+use Rattle.std.proofs.lemmas.Slice.{put_mid-paste}
+use Rattle.std.proofs.lemmas.List.Edits.{paste_all}
 
 pub sets_append : (l : List ℕ) (i : ℕ) (xs ys : List ℕ) → sets l i (xs ++ ys) ≡ sets (sets l i xs) (i + length xs) ys
 sets_append l i [] ys = rw add-zero
 sets_append l i (x ∷ xs) ys = rw (add-suc, ← suc-add) (sets_append (set l i x) (suc i) xs ys)
 
--- a run of single stores: at its start, its next, and its end
-pub sets_start : (l xs : List ℕ) (at : ℕ) → sets l at xs ≡ sets l (at + 0) (drop 0 xs)
-sets_start l xs at = rw add-zero
-
-pub sets_next : (l xs : List ℕ) (at i : ℕ) → i < length xs
-    → sets l (at + i) (drop i xs) ≡ sets (set l (at + i) (get_or xs i 0)) (at + (i + 1)) (drop (i + 1) xs)
-sets_next l xs at i h =
-    let e : at + (i + 1) ≡ suc (at + i) = omega arith in
-    rw (e, add-one, drop-cons xs i 0 h)
-
-pub sets_done : (l xs : List ℕ) (at i : ℕ) → length xs ≤ i → sets l (at + i) (drop i xs) ≡ l
-sets_done l xs at i h = rw (drop_of_length-le xs h)
+-- a list copied over a part of its length, of k elements from `at` on
+pub sets_copied : {A : Type 0} (l xs ys : List A) (at k : ℕ) → at + length xs ≤ length l → k ≡ length xs → ys ≡ xs → put_mid at k l ys ≡ sets l at xs
+sets_copied l xs ys at k h e same =
+    put_mid-paste at k l ys xs (length xs) same (sym e) refl
+    ∙ paste_all l at xs (length xs) refl
+    ∙ sym (append_assoc (take at l) xs (drop (at + length xs) l))
+    ∙ sym (sets-eq xs l at h)

@@ -1,3 +1,5 @@
 pub mod Rules
+pub mod Refusal
+pub mod Kind
 pub mod Format
 pub mod program

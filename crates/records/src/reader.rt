@@ -10,7 +10,7 @@ pub struct Reader<'a> {
     pub at: usize,
 }
 
-// A record: where it begins, its kind, where its payload begins and the bytes that it has.
+// A record: where it begins, its kind, where its payload begins and the bytes that it has. The kind is the number sent, since rule 3 decides whether it is one.
 #[derive(Clone, Copy)]
 pub struct Record {
     pub place: usize,

@@ -27,7 +27,8 @@ use Rattle.description.proofs.Walls.{strakes_length}
 use Rattle.sheet.specs.Refusal.{sides_met, proportion_met, product_met, flat, hopper, value_rules, rules_with, length_refusal, refusal_of}
 use Rattle.sheet.specs.Accepted.{Hopper, Measured, Accepted}
 use Rattle.sheet.proofs.Heights.{strakes_met_at, at_strakes_met, rising_most, rising_next, next_rising}
-use Rattle.sheet.proofs.Layouts.{layout_numbered, layout_of, of_layout}
+use Rattle.records.proofs.Fine.{layout_numbered}
+use Rattle.sheet.proofs.Layouts.{layout_of, of_layout}
 use Rattle.sheet.proofs.Chains.{accepted_measured, in_proportion}
 
 pub depths_length : (s : List ℕ) → length (depths_of s) ≡ depth_count s

@@ -18,16 +18,18 @@ use lib.Dec.{leb, eqb}
 use lib.ListN.{drop}
 use Rattle.janssen.specs.declared.Section.TheVariants.{Circle}
 use Rattle.records.specs.Rules.{Rule, ◌unless◌, first_unmet}
+use Rattle.std.specs.Prelude.{Result}
+use Rattle.records.specs.declared.refusal.Refusal.{Refusal}
+use Rattle.records.specs.Refusal.{answer}
 use Rattle.records.specs.Format.{record_rules, records_rules, layout_rules}
 use Rattle.records.proofs.Tests.{absurd, both_true}
 use Rattle.records.proofs.Chain.{numbered, met, apart, skipped, stopped, chains_alike, inserted, has, absent, below, first_below}
 use Rattle.description.specs.Silo.{section_of, depths_of, V_of}
-use Rattle.description.specs.program.Described.{described_of}
-use Rattle.sheet.specs.declared.Asked.TheVariants.{Length, Loads}
-use Rattle.sheet.specs.declared.Judged.{Judged}
+use Rattle.description.specs.declared.Described.{Described}
+use Rattle.sheet.specs.declared.Asked.TheVariants.{Length}
 use Rattle.sheet.specs.Refusal.{sides_met, proportion_met, depths_met, value_rules, rules_with, sheet_rules, sheet_rules_at, length_refusal, refusal_of}
-use Rattle.sheet.specs.program.Judged.{Examined}
-use Rattle.sheet.proofs.Layouts.{by_count, layout_numbered}
+use Rattle.sheet.specs.program.Examined.{Examined}
+use Rattle.records.proofs.Fine.{by_count, layout_numbered}
 
 -- a chain without the rules of one number
 abbrev pub less : ℕ → List Rule → List Rule
@@ -120,13 +122,13 @@ module _ (s : List ℕ) (own : List Rule) where
   sheet_met h = (apart own (sheet_rules s) (rules_numbered true s) h).0
 
   -- beside a call that tells a length
-  abbrev answer : ℕ
-  answer = first_unmet (sheet_rules s ++ own)
+  abbrev call : ℕ
+  call = first_unmet (sheet_rules s ++ own)
 
-  pub call_or_20 : (length_refusal s ≡ 0 → ⊥) → (answer ≡ length_refusal s) ⊎ (answer ≡ 20)
+  pub call_or_20 : (length_refusal s ≡ 0 → ⊥) → (call ≡ length_refusal s) ⊎ (call ≡ 20)
   call_or_20 n = rw (sheet_first (λ h. n (accepted_measured s h))) (loads_or_20 s)
 
-  pub call_measured_20 : length_refusal s ≡ 0 → first_unmet own ≡ 0 → (answer ≡ 0 → ⊥) → answer ≡ 20
+  pub call_measured_20 : length_refusal s ≡ 0 → first_unmet own ≡ 0 → (call ≡ 0 → ⊥) → call ≡ 20
   call_measured_20 h met n =
       let refused : refusal_of s ≡ 0 → ⊥ = λ o. n (sheet_passed o ∙ met) in
       sheet_first refused ∙ measured_20 s h refused
@@ -183,16 +185,6 @@ unfolding length_refusal
 length_asked s = ap (λ (given : Bool). first_unmet (rules_with true given s)) (le-leb 0 (V_of s) (omega arith))
 
 -- what is due of a sheet that was examined, and what it describes where it is not refused
-module _ (s : List ℕ) (j : Judged) where
-  pub length_examined : Examined Length s 0 j → j.refused ≡ length_refusal s
+module _ (s : List ℕ) (r : Result Described Refusal) where
+  pub length_examined : Examined Length s 0 r → answer r ≡ length_refusal s
   length_examined e = e.refusal ∙ length_asked s
-
-  pub examined_at : (z : ℕ) → Examined Loads s z j → j.refused ≡ first_unmet (sheet_rules_at s z)
-  examined_at z e = e.refusal
-
-  module _ (e : Examined Loads s 0 j) where
-    pub loads_examined : j.refused ≡ refusal_of s
-    loads_examined = examined_at 0 e ∙ at_brim s
-
-    pub examined_met : j.refused ≡ 0 → (refusal_of s ≡ 0) × (j.described ≡ described_of s)
-    examined_met h = (sym loads_examined ∙ h, e.silo h)

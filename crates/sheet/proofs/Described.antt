@@ -16,7 +16,7 @@ use Rattle.description.specs.Silo.{section_of, product_sent, product_of, factor_
 use Rattle.description.specs.program.Described.{wall_of, described_of}
 use Rattle.sheet.specs.declared.Asked.{Asked}
 use Rattle.sheet.specs.Refusal.{value_rules}
-use Rattle.sheet.specs.program.Judged.{tells, described_rules}
+use Rattle.sheet.specs.program.Examined.{tells, described_rules}
 use Rattle.sheet.specs.Accepted.{Measured}
 use Rattle.description.proofs.Walls.{strakes_length, wall_fits}
 use Rattle.description.proofs.Sums.{sum_next, sum_take}

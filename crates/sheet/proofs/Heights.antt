@@ -2,31 +2,19 @@
 use Prim.Native.Nat.{ℕ, zero, suc, ◌+◌, ◌≤◌, ◌<◌}
 use mathlib.Core.Bool.{true, ◌&&◌}
 use mathlib.Core.List.{List, [], ◌∷◌}
-use mathlib.Core.Path.{◌≡◌, refl, ap, sym, ◌∙◌}
-use native.Mathlib.Numerals.{add-one}
+use mathlib.Core.Path.{◌≡◌, refl, ap}
 use native.Mathlib.Omega.{arith}
-use lib.ListN.{length, get_or, take, drop}
-use lib.Seq.{length-take-le, drop-length, drop-cons, get_or-take}
+use lib.ListN.{length, get_or}
+use Rattle.std.specs.List.{list_all}
 use Rattle.records.specs.Rules.{within}
 use Rattle.records.proofs.Tests.{absurd, both_true, within_true, true_within}
 use Rattle.sheet.specs.Refusal.{strakes_met, depths_met}
 
--- going through the first heights of a wall: the strake i and those behind it, and none left
-module _ (heights : List ℕ) (count : ℕ) (fits : count ≤ length heights) where
-  pub strakes_next : (i : ℕ) → i < count
-      → strakes_met (drop i (take count heights)) ≡ (within 200 3000 (get_or heights i 0) && strakes_met (drop (i + 1) (take count heights)))
-  unfolding strakes_met
-  strakes_next i h =
-      let l = take count heights in
-      let inside : i < length l = omega (arith, h, length-take-le count heights fits) in
-      ap strakes_met (drop-cons l i 0 inside) ∙ rw (add-one, get_or-take count heights i 0 h) refl
-
-  pub strakes_done : (i : ℕ) → i ≡ count → strakes_met (drop i (take count heights)) ≡ true
-  unfolding strakes_met
-  strakes_done i e =
-      let l = take count heights in
-      let whole : i ≡ length l = e ∙ sym (length-take-le count heights fits) in
-      ap (λ (n : ℕ). strakes_met (drop n l)) whole ∙ ap strakes_met (drop-length l)
+-- each strake of a list
+pub all_met : (l : List ℕ) → list_all (λ (x : ℕ). within 200 3000 x) l ≡ strakes_met l
+unfolding strakes_met
+all_met [] = refl
+all_met (x ∷ l) = ap (λ b. within 200 3000 x && b) (all_met l)
 
 pub depths_next : (top low z : ℕ) (l : List ℕ) → depths_met top low (z ∷ l) ≡ (within low top z && depths_met top (z + 1) l)
 unfolding depths_met

@@ -1,32 +1,36 @@
 // Rules 6 to 12, 17 and 20, each a test; dc is d_c, mm.
-ghost use Rattle.std.specs.Prelude.{◌||◌, ◌≡◌, ◌*◌, ◌<◌, ◌≤◌, leb, ltb, length, take};
+ghost use Rattle.std.specs.Prelude.{ℕ, ◌||◌, ◌≡◌, ◌*◌, ◌<◌, ◌≤◌, leb, ltb};
+ghost use Rattle.std.specs.List.{list_all};
+ghost use Rattle.records.specs.Refusal.{answer};
 ghost use Rattle.records.specs.Rules.{within, first_unmet};
 ghost use Rattle.description.specs.Silo.{depths_of};
 ghost use Rattle.janssen.specs.Section.{side_a, side_b};
 ghost use Rattle.description.specs.program.Described.{depths_in, Sized};
 ghost use Rattle.sheet.specs.Refusal.{sides_met, proportion_met, product_met, eccentricities_met, flat, hopper, strakes_met, depths_met};
-ghost use Rattle.sheet.specs.program.Judged.{tells, described_rules};
+ghost use Rattle.sheet.specs.program.Examined.{tells, described_rules};
 
 use crate::Asked;
 use description::{Bottom, Depths, Described, Eccentricities};
-use janssen::{Product, Section, shorter_side, side_a, side_b};
-use records::bytes::four_bytes;
+use janssen::{Product, Section};
+use records::refusal::Refusal;
 
-// low ≤ x ≤ high
+// low ≤ x ≤ high. A function, since with `contains` in each place the check does not prove rules 7 and 11.
 fn between(low: u64, high: u64, x: u64) -> bool
     ensures { result ≡ within low high x }
 {
-    (low <= x) & (x <= high)
+    (low..=high).contains(&x)
 }
 
 // Rule 6.
+#[tactic(auto, unfolding(crate::specs::Refusal::sides_met))]
 fn sides_met(section: Section) -> bool
     ensures { result ≡ sides_met section }
 {
-    between(500, 50000, side_a(section)) & between(500, 50000, side_b(section))
+    between(500, 50000, section.side_a()) & between(500, 50000, section.side_b())
 }
 
 // Rule 20: the long side of a rectangle is at most three times the short one.
+#[tactic(auto, using(crate::proofs::Sides::both_ways), unfolding(crate::specs::Refusal::proportion_met, janssen::specs::Section::side_a, janssen::specs::Section::side_b))]
 fn proportion_met(section: Section) -> bool
     requires { (side_a section < 4294967296) × (side_b section < 4294967296) }
     ensures { result ≡ proportion_met section }
@@ -37,7 +41,7 @@ fn proportion_met(section: Section) -> bool
     }
 }
 
-// Rule 20 where loads are asked for; a length is told of any section.
+// Rule 20 where loads are asked for; a length is told of any section. A closure for each of the two would be no plainer.
 fn proportion_asked(asked: Asked, section: Section) -> bool
     requires { (side_a section < 4294967296) × (side_b section < 4294967296) }
     ensures { result ≡ (tells asked || proportion_met section) }
@@ -83,19 +87,11 @@ fn is_hopper(dc: u64, bottom: Bottom) -> bool
         & (363971 * bottom.run <= 1000000 * bottom.height)
 }
 
-// Rule 10, of the first heights.
-fn strakes_met(heights: &[u64; 24], count: usize) -> bool
-    requires { (length heights.now ≡ 24) × (count ≤ 24) }
-    ensures { result ≡ strakes_met (take count heights.now) }
+// Rule 10.
+fn strakes_met(strakes: &[u64]) -> bool
+    ensures { result ≡ list_all (λ (x : ℕ). within 200 3000 x) strakes.now }
 {
-    let mut i: usize = 0;
-    while i < count {
-        if !between(200, 3000, heights[i]) {
-            return false;
-        }
-        i += 1;
-    }
-    true
+    strakes.iter().all(|height| between(200, 3000, *height))
 }
 
 // Rule 11: each depth is from low to the wall's foot, low being one more than the depth before.
@@ -103,18 +99,13 @@ fn depths_met(sheet: &[u8], depths: Depths, foot: u64) -> bool
     requires { (depths ≡ depths_in sheet.now) × (depths.start ≤ 1024) × (depths.count ≤ 1024) }
     ensures { result ≡ depths_met foot 0 (depths_of sheet.now) }
 {
-    let count = depths.count;
-    let mut at = depths.start;
     let mut low: u64 = 0;
-    let mut i: usize = 0;
-    while i < count {
-        let z = four_bytes(sheet, at);
+    for i in 0..depths.count {
+        let z = depths.read(sheet, i);
         if !between(low, foot, z) {
             return false;
         }
         low = z + 1;
-        at += 4;
-        i += 1;
     }
     true
 }
@@ -141,46 +132,51 @@ fn depth_met(depth: u64, foot: u64) -> bool
     depth <= foot
 }
 
-// The first refusal of rules 6, 20, 7 to 11, 17 and 12 of the silo described and a depth given, or 0. No rule behind it is worked out.
-#[tactic(auto, unfolding(crate::specs::program::Judged::described_rules, records::specs::Rules::first_unmet))]
-pub fn values_refusal(asked: Asked, sheet: &[u8], described: Described, depth: u64) -> u32
-    requires { Sized described × (described.depths ≡ depths_in sheet.now) }
-    ensures { result ≡ first_unmet (described_rules asked described (depths_of sheet.now) depth) }
+// The first refusal of rules 6, 20, 7 to 11, 17 and 12 of the silo described and a depth given. No rule behind it is worked out.
+#[tactic(auto, using(crate::proofs::Heights::all_met), unfolding(crate::specs::program::Examined::described_rules, records::specs::Rules::first_unmet))]
+pub fn values_refusal(
+    asked: Asked,
+    sheet: &[u8],
+    described: &Described,
+    depth: u64,
+) -> Result<(), Refusal>
+    requires { Sized described.now × (described.now.depths ≡ depths_in sheet.now) }
+    ensures { answer result ≡ first_unmet (described_rules asked described.now (depths_of sheet.now) depth) }
 {
     let section = described.section;
     if !sides_met(section) {
-        return 6;
+        return Err(Refusal::Sides);
     }
     if !proportion_asked(asked, section) {
-        return 20;
+        return Err(Refusal::Proportion);
     }
     let product = described.product;
     if !product_met(product) {
-        return 7;
+        return Err(Refusal::Product);
     }
-    let dc = shorter_side(section);
+    let dc = section.shorter_side();
     let eccentricities = described.eccentricities;
     if !eccentricities_met(dc, eccentricities) {
-        return 8;
+        return Err(Refusal::Eccentricity);
     }
     let bottom = described.bottom;
     if !(is_flat(bottom) | is_hopper(dc, bottom)) {
-        return 9;
+        return Err(Refusal::Bottom);
     }
-    if !strakes_met(&described.wall.heights, described.wall.count) {
-        return 10;
+    if !strakes_met(described.wall.strakes()) {
+        return Err(Refusal::Strake);
     }
     let foot = described.wall.foot;
     let depths = described.depths;
     if !(depth_met(depth, foot) & depths_met(sheet, depths, foot)) {
-        return 11;
+        return Err(Refusal::Depth);
     }
     let headroom = described.headroom;
     if !headroom_met(headroom, foot) {
-        return 17;
+        return Err(Refusal::Headroom);
     }
     if !height_met(dc, foot - headroom + bottom.height) {
-        return 12;
+        return Err(Refusal::TooTall);
     }
-    0
+    Ok(())
 }

@@ -29,13 +29,15 @@ pub size_is : (p d : ℕ) → size entry p d ≡ up ((p * entry d) ⊘ 100000000
 unfolding size
 size_is p d = refl
 
--- none is above p_p
-pub size_most : (p d : ℕ) → size entry p d ≤ p
-unfolding size
-size_most p d = up_le (p * entry d) 1000000000 p (omega arith) (mul-le-mul_left p (entry_most d))
-
 pub product_fits : (p t : ℕ) → p < 2 ^ 21 → t ≤ 1000000000 → p * t < 2 ^ 63
 product_fits p t hp ht = let h : p ≤ 2 ^ 21 = omega arith in omega (arith, mul-le-mul h ht)
+
+-- none is above p_p
+pub quotient_most : (p t : ℕ) → t ≤ 1000000000 → up ((p * t) ⊘ 1000000000) ≤ p
+quotient_most p t h = up_le (p * t) 1000000000 p (omega arith) (mul-le-mul_left p h)
+
+pub size_most : (p d : ℕ) → size entry p d ≤ p
+size_most p d = omega (arith, size_is p d, quotient_most p (entry d) (entry_most d))
 
 -- they rise with p_p and fall with the angle
 pub size_rises : (c : ℕ → ℕ) (p p' d : ℕ) → p ≤ p' → size c p d ≤ size c p' d
@@ -69,10 +71,11 @@ module _ (d p : ℕ) (hd : d ≤ 50000) (hp : p < 2 ^ 21) where
   force_top = omega (arith, volume)
 
   -- it is an i32
+  pub rounded_most : up ((355 * d * d * p) ⊘ 1130000000) < 2 ^ 31
+  rounded_most = omega (arith, up_le (355 * d * d * p) 1130000000 2147483647 (omega arith) (omega (arith, volume)))
+
   pub force_most : F_p d p < 2 ^ 31
-  force_most =
-      let h = up_le (355 * d * d * p) 1130000000 2147483647 (omega arith) (omega (arith, volume)) in
-      omega (arith, force_is d p, h)
+  force_most = omega (arith, force_is d p, rounded_most)
 
 -- ---- of an accepted sheet and a depth at most at the wall's foot
 module _ (s : List ℕ) (z : ℕ) (h : refusal_of s ≡ 0) (under : z ≤ V_of s) where

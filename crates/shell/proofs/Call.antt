@@ -1,7 +1,7 @@
 -- What the call for the patch round the shell answers and leaves, in its four cases: refused for the sheet or the depth, for a rectangle, for the list's
 -- length, filled.
-use Prim.Native.Nat.{ℕ, ◌^◌, ◌≤◌, ◌<◌}
-use mathlib.Core.Path.{◌≡◌, refl, sym, ap, subst, ◌∙◌}
+use Prim.Native.Nat.{ℕ, ◌≤◌}
+use mathlib.Core.Path.{◌≡◌, refl, sym, subst, ◌∙◌}
 use mathlib.Core.Bool.{true, false}
 use mathlib.Core.List.{List, [], ◌∷◌}
 use native.Mathlib.Omega.{arith}
@@ -16,55 +16,31 @@ use Rattle.exponential.specs.program.Table.{table}
 use Rattle.exponential.proofs.TableLaws.{tabulated}
 use Rattle.cosine.specs.program.Table.{entry}
 use Rattle.cosine.proofs.CosineLaws.{tabulated as cosines_tabulated}
-use Rattle.janssen.specs.Section.{d_c}
 use Rattle.janssen.specs.program.Pressure.{computed_by, computed}
-use Rattle.description.specs.declared.Described.{Described}
 use Rattle.description.specs.Silo.{section_of, V_of}
-use Rattle.description.specs.program.Described.{described_of}
 use Rattle.sheet.specs.Refusal.{sheet_rules_at, refusal_of}
 use Rattle.sheet.proofs.Chains.{accepted_at, given_met, rules_numbered, call_never_13}
 use Rattle.sheet.proofs.Acceptance.{accepted}
 use Rattle.loads.specs.declared.Basis.{Basis}
-use Rattle.loads.specs.Load.{load_number}
 use Rattle.loads.specs.Load.Load.{p_p}
-use Rattle.loads.specs.program.Basis.{basis_for, Reached, Sound}
+use Rattle.loads.specs.declared.Silo.{Silo}
+use Rattle.loads.specs.program.Basis.{Reached}
 use Rattle.loads.proofs.LoadLaws.{holds}
 use Rattle.answers.specs.Answers.{silo_of}
-use Rattle.answers.specs.program.Fill.{silo_in, basis_of, answers}
+use Rattle.answers.specs.program.Fill.{answers}
 use Rattle.answers.proofs.Places.{answers_filled}
 use Rattle.answers.proofs.Demand.{silo_fits, reached, claim}
-use Rattle.answers.proofs.Whole.{basis_described, basis_sound}
-use Rattle.shell.specs.Shell.{folded, size, p_ps, ReplyList, ReplyListOf, is_circle, shell_rules}
+use Rattle.shell.specs.Shell.{folded, size, p_ps, ReplyListOf, is_circle, shell_rules}
 use Rattle.shell.specs.program.Fill.{patch_at}
 use Rattle.shell.specs.Holds.{ShellClaim}
 use Rattle.shell.specs.Promise.{ShellPromise}
 use Rattle.shell.proofs.Quadrants.{folded_small}
-use Rattle.shell.proofs.Bounds.{patch_fits, width_most}
+use Rattle.shell.proofs.Bounds.{patch_fits}
 use Rattle.shell.proofs.Sizes.{size_holds}
 
--- the basis of an accepted sheet serves the patch at a depth of its wall, and the list made from it is the sheet's
-module _ (s : List ℕ) (d : Described) (z : ℕ) (h : refusal_of s ≡ 0) (e : d ≡ described_of s) (under : z ≤ V_of s) (b : Basis) (made : b ≡ basis_for (silo_in d)) where
-  of_sheet : b ≡ basis_of s
-  of_sheet = basis_described s d b e made
-
-  pub patch_asks : Sound b × Reached b.silo z
-  patch_asks =
-      subst (λ (x : Basis). Sound x × Reached x.silo z) (sym of_sheet) (basis_sound s h, reached s (accepted s h).measured z under)
-
-  module _ (p : ℕ) (of : p ≡ load_number computed b.silo p_p z) where
-    patch_of_sheet : p ≡ patch_at computed s z
-    patch_of_sheet = of ∙ ap (λ (x : Basis). load_number computed x.silo p_p z) of_sheet
-
-    width_of_sheet : b.dc ≡ d_c (section_of s)
-    width_of_sheet = ap (λ (x : Basis). x.dc) of_sheet
-
-    pub round_asks : (b.dc ≤ 50000) × (p < 2 ^ 21)
-    round_asks = (omega (arith, width_of_sheet, width_most s z h under), omega (arith, patch_of_sheet, patch_fits s z h under))
-
-    pub round_of_sheet : (list : List ℤ) → ReplyList entry b.dc p list → ReplyListOf computed entry s z list
-    round_of_sheet list r =
-        subst (λ (n : ℕ). ReplyList entry n (patch_at computed s z) list) width_of_sheet
-        (subst (λ (n : ℕ). ReplyList entry b.dc n list) patch_of_sheet r)
+-- the basis of an accepted sheet serves the patch at a depth of its wall
+pub patch_asks : (s : List ℕ) (z : ℕ) (h : refusal_of s ≡ 0) (under : z ≤ V_of s) (b : Basis) (of : b.silo ≡ silo_of s) → Reached b.silo z
+patch_asks s z h under b of = subst (λ (c : Silo). Reached c z) (sym of) (reached s (accepted s h).measured z under)
 
 -- what holds of the list of an accepted sheet and a depth of its wall
 pub shell_claim : (s : List ℕ) (z : ℕ) (list : List ℤ) → refusal_of s ≡ 0 → z ≤ V_of s → ReplyListOf computed entry s z list → ShellClaim computed entry s z list

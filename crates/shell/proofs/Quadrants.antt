@@ -91,9 +91,6 @@ module _ (d p : ℕ) (l : List ℤ) (long : length l ≡ 361) (h : d < 91) where
   third_long : length third ≡ 361
   third_long = length-set second (180 - d) (neg_ℤ (pos n)) ∙ second_long
 
-  pub placed_long : length (placed l d n) ≡ 361
-  placed_long = length-set third (180 + d) (neg_ℤ (pos n)) ∙ third_long
-
   -- the four places, and what stands there
   at_first : (θ : ℕ) → θ ≡ d → pos n ≡ p_ps entry p θ
   unfolding apart

@@ -1,30 +1,14 @@
 -- The answer list as the program fills it, part by part.
-use Rattle.std.specs.Prelude.{ℕ, suc, max, List, [], ◌∷◌, ◌++◌, length, get_or, take}
+use Rattle.std.specs.Prelude.{ℕ, suc, List, [], ◌∷◌, ◌++◌, length, get_or, take}
 use Rattle.janssen.specs.program.Pressure.{computed}
 use Rattle.description.specs.Silo.{strakes_of, depth_count, sum}
-use Rattle.description.specs.declared.Described.{Described}
-use Rattle.description.specs.program.Described.{product_read}
 use Rattle.loads.specs.declared.Silo.{Silo}
-use Rattle.loads.specs.declared.Basis.{Basis}
 use Rattle.loads.specs.Load.{load_number, bottom_numbers}
 use Rattle.loads.specs.Load.Load.{p_he}
-use Rattle.loads.specs.program.Basis.{basis_for, depth_numbers}
+use Rattle.loads.specs.program.Basis.{depth_numbers}
 use Rattle.answers.specs.Each.{each}
 use Rattle.answers.specs.Answers.{silo_of, depth}
 use Rattle.answers.specs.program.Place.{in_places}
-
--- the silo described, as its loads see it; e is the larger of e_i, e_o
-abbrev pub silo_in : Described → Silo
-silo_in d =
-    record {
-      section = d.section;
-      product = product_read d.product;
-      eccentricity = max d.eccentricities.inlet d.eccentricities.outlet;
-      height = d.bottom.height;
-      run = d.bottom.run;
-      foot = d.wall.foot;
-      headroom = d.headroom;
-    }
 
 -- the number of the strake k of a wall of these heights, at its lower edge
 abbrev pub at_strake : Silo → List ℕ → ℕ → List ℕ
@@ -53,7 +37,3 @@ strakes_part s = strake_numbers (silo_of s) (strakes_of s)
 -- the answer list: depths, bottom, strakes
 unfoldable pub answers : List ℕ → List ℕ
 answers s = depths_part s ++ (bottom_part s ++ strakes_part s)
-
--- what is worked out once for the sheet
-abbrev pub basis_of : List ℕ → Basis
-basis_of s = basis_for (silo_of s)

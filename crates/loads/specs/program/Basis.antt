@@ -1,23 +1,11 @@
--- What is worked out once for a silo, what the silo of an accepted sheet meets, and the numbers of a depth in the program's order.
-use Rattle.std.specs.Prelude.{ℕ, ◌*◌, ◌≤◌, ◌≡◌, List, map}
+-- What the silo of an accepted sheet meets, and the numbers of a depth in the program's order.
+use Rattle.std.specs.Prelude.{ℕ, ◌*◌, ◌≤◌, List, map}
 use Rattle.janssen.specs.Section.{d_c}
 use Rattle.janssen.specs.Filling.{grain_of}
 use Rattle.janssen.specs.program.Range.{Within, InRange, InDepth}
 use Rattle.janssen.specs.program.Pressure.{computed}
-use Rattle.janssen.specs.program.Prepare.{prepared_for}
-use Rattle.discharge.specs.program.Magnifier.{held}
 use Rattle.loads.specs.declared.Silo.{Silo}
-use Rattle.loads.specs.declared.Basis.{Basis}
-use Rattle.loads.specs.Load.{eight, load_depth, C_h, C_w, load_number}
-
-abbrev pub basis_for : Silo → Basis
-basis_for c = record {
-  silo = c;
-  prepared = prepared_for c.section (grain_of c.product);
-  dc = d_c c.section;
-  horizontal = held (C_h c);
-  friction = held (C_w c);
-}
+use Rattle.loads.specs.Load.{eight, load_depth, load_number}
 
 -- a depth at which loads are worked out
 abbrev pub Reached : Silo → ℕ → Type 0
@@ -31,11 +19,6 @@ pub record Fits (c : Silo) : Type 0 where
   pub height_most : c.height ≤ 25000
   pub run_most : c.run ≤ 25000
   pub foot_reached : Reached c c.foot
-
--- its basis
-pub record Sound (b : Basis) : Type 0 where
-  pub fits : Fits b.silo
-  pub right : b ≡ basis_for b.silo
 
 -- the numbers of a depth
 unfoldable pub depth_numbers : Silo → ℕ → List ℕ

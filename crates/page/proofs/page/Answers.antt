@@ -1,34 +1,39 @@
 -- In its cases (`Call`): refused for the sheet, for the buffer's length, or written.
+use Prim.Native.Nat.{ℕ}
+use mathlib.Core.List.{List}
+use mathlib.Core.Path.{refl, ap, ◌∙◌}
 use native.Mathlib.Omega.{arith}
-use Rattle.sheet.proofs.Chains.{loads_examined, examined_met}
-use Rattle.page.proofs.Call.{described_size, refused, short, written}
+use lib.Seq.{sets}
+use Rattle.std.proofs.lemmas.Result.{err_from_is_err_and}
+use Rattle.records.proofs.Refusals.{no_zero}
+use Rattle.description.specs.Silo.{depth_count}
+use Rattle.sheet.proofs.Chains.{at_brim}
+use Rattle.answers.specs.Place.{load_place}
+use Rattle.answers.specs.program.Fill.{answers}
+use Rattle.answers.proofs.LengthLaws.{accepted_met}
+use Rattle.page.specs.program.Text.{page_text}
+use Rattle.page.proofs.Call.{accepted_size, refused, short, written}
 use Rattle.page.proofs.page.Goals as goal
 
-pub returns-then-judged-ne0 : goal.returns-then-judged-ne0
-returns-then-judged-ne0 c =
-    let examined = c.examine-judged in
-    let a = c.args in
-    refused a.sheet.now a.out.now examined.result.refused (loads_examined a.sheet.now examined.result examined.ensures) c.if-judged-ne0.true
-
-pub page_due-requires : goal.page_due-requires
-page_due-requires c = let sized = c.examine-judged.ensures.sized in (sized.depths_few, sized.strakes_few)
+pub returns-in_err-accepted : goal.returns-in_err-accepted
+returns-in_err-accepted c =
+    let s = c.args.sheet.now in
+    let p = err_from_is_err_and c.from_residual.result c.from_residual.ensures.1 in
+    rw (p.1, p.2) (refused s c.args.out.now _ (c.in_err-accepted.ensures.refusal ∙ at_brim s) (no_zero _))
 
 pub returns-then-out-page_due : goal.returns-then-out-page_due
 returns-then-out-page_due c =
-    let a = c.args in
-    let met = examined_met c.args.sheet.now c.examine-judged.result c.examine-judged.ensures c.if-judged-ne0.false in
-    let due = described_size c.args.sheet.now c.examine-judged.result.described c.page_due.result met.1 c.page_due.ensures.0 in
-    short a.sheet.now a.out.now met.0 (omega (arith, c.if-out-page_due.true, due))
+    let a = c.in_ok-accepted.accepted in
+    let same = ap (λ b. b.now) c.in_ok-accepted.ensures.accepted.0 in
+    short c.args.sheet.now c.args.out.now (accepted_met a same) (omega (arith, c.if-out-page_due.true, accepted_size a same c.page_due.ensures.0))
 
 pub fill-requires : goal.fill-requires
-fill-requires c =
-    let met = examined_met c.args.sheet.now c.examine-judged.result c.examine-judged.ensures c.if-judged-ne0.false in
-    let due = described_size c.args.sheet.now c.examine-judged.result.described c.page_due.result met.1 c.page_due.ensures.0 in
-    (met.0, met.1, omega (arith, c.if-out-page_due.false, due))
+fill-requires c = omega (arith, c.if-out-page_due.false, accepted_size c.in_ok-accepted.accepted refl c.page_due.ensures.0)
 
 pub returns : goal.returns
 returns c =
-    let a = c.args in
-    let met = examined_met c.args.sheet.now c.examine-judged.result c.examine-judged.ensures c.if-judged-ne0.false in
-    let due = described_size c.args.sheet.now c.examine-judged.result.described c.page_due.result met.1 c.page_due.ensures.0 in
-    written a.sheet.now a.out.now c.fill.new.out met.0 (omega (arith, c.if-out-page_due.false, due)) c.fill.ensures
+    let a = c.in_ok-accepted.accepted in
+    let same = ap (λ b. b.now) c.in_ok-accepted.ensures.accepted.0 in
+    written c.args.sheet.now c.args.out.now c.fill.new.out (accepted_met a same)
+    (omega (arith, c.if-out-page_due.false, accepted_size a same c.page_due.ensures.0))
+    (c.fill.ensures ∙ ap (λ (s : List ℕ). sets c.args.out.now 0 (page_text load_place (answers s) (depth_count s))) same)

@@ -1,20 +1,13 @@
--- The call with this pressure alone (`Call`): its refusals are the sheet's, and its depth is small.
-use native.Mathlib.Omega.{arith}
-use Rattle.reach.proofs.Call.{asked_alone, alone_small}
+-- The call with this pressure alone (`Call`): its refusal, or its depth.
+use Rattle.std.proofs.Common.{refl}
+use Rattle.std.proofs.lemmas.Result.{err_from_is_err_and}
+use Rattle.reach.proofs.Call.{refused_alone, found_alone}
 use Rattle.reach.proofs.depth_for.Goals as goal
 
-pub overflow_cast-depths : goal.overflow_cast-depths
-overflow_cast-depths c =
-    let a = c.args in
-    omega (arith, alone_small a.sheet.now a.pressure c.depths_for-refused.result _ c.depths_for-refused.ensures)
-
-pub told-requires : goal.told-requires
-told-requires c =
-    let a = c.args in
-    omega (arith, alone_small a.sheet.now a.pressure c.depths_for-refused.result _ c.depths_for-refused.ensures)
+pub returns-in_err-depths_for : goal.returns-in_err-depths_for
+returns-in_err-depths_for c =
+    let p = err_from_is_err_and c.from_residual.result c.from_residual.ensures.1 in
+    rw (p.1, p.2) (refused_alone _ _ _ _ c.in_err-depths_for.ensures _ refl)
 
 pub returns : goal.returns
-returns c =
-    let asked = c.depths_for-refused in
-    let a = c.args in
-    rw c.told.ensures (asked_alone a.sheet.now a.pressure asked.result _ asked.ensures)
+returns c = found_alone _ _ _ _ c.in_ok-depths_for.ensures refl

@@ -1,8 +1,9 @@
--- The invariant: every depth before i is met, so what is due is what those left say.
-use mathlib.Core.Path.{ap, sym, ◌∙◌}
+-- The depth at i is tried, and those behind it are left.
+use mathlib.Core.Path.{◌≡◌, ap, sym, ◌∙◌}
+use Prim.Native.Nat.{◌+◌, ◌*◌}
 use native.Mathlib.Omega.{arith}
 use Rattle.records.specs.Format.{u32}
-use Rattle.records.proofs.Numbers.{numbers_start, numbers_next, numbers_end}
+use Rattle.records.proofs.Numbers.{numbers_start, numbers_step, numbers_end}
 use Rattle.description.specs.declared.Depths.{Depths}
 use Rattle.description.specs.Silo.{depths_of}
 use Rattle.sheet.specs.Refusal.{depths_met}
@@ -13,48 +14,36 @@ pub loop-i-init : goal.loop-i-init
 unfolding depths_of
 loop-i-init c =
     let a = c.args in
-    let e = numbers_start (u32 a.sheet.now) 4 (ap (λ (d : Depths). d.start) c.requires.0) (ap (λ (d : Depths). d.count) c.requires.0) in
-    (omega arith, c.requires.2, c.requires.1, ap (depths_met a.foot 0) e)
-
-pub four_bytes-z-requires : goal.four_bytes-z-requires
-four_bytes-z-requires c = let l = c.loop-i in omega (arith, l.invariant.1, l.invariant.2)
+    let first : a.depths.start + 4 * 0 ≡ a.depths.start = omega arith in
+    ap (depths_met a.foot 0)
+    (numbers_start (u32 a.sheet.now) 4 (first ∙ ap (λ (d : Depths). d.start) c.requires.0) (ap (λ (d : Depths). d.count) c.requires.0))
 
 pub returns-then-not-between : goal.returns-then-not-between
 returns-then-not-between c =
     let l = c.loop-i in
     let a = c.args in
-    let s = a.sheet.now in
-    let read = c.four_bytes-z.ensures.0 in
+    let at = a.depths.start + 4 * l.i in
     let e = sym c.between.ensures ∙ c.if-not-between.true in
     sym
-    (l.invariant.3
-    ∙ ap (depths_met a.foot l.low) (numbers_next (u32 s) 4 l.at a.depths.count l.i c.loop-i-test.true)
-    ∙ depths_next a.foot l.low (u32 s l.at) _
-    ∙ simp (← read, e))
-
-pub overflow_add-at : goal.overflow_add-at
-overflow_add-at c = let l = c.loop-i in omega (arith, l.invariant.0, l.invariant.1, l.invariant.2)
+    (l.invariant
+    ∙ ap (depths_met a.foot l.low) (numbers_step (u32 a.sheet.now) 4 a.depths.start a.depths.count l.i c.loop-i-test.true)
+    ∙ depths_next a.foot l.low (u32 a.sheet.now at) _
+    ∙ simp (← c.read-z.ensures.0, e))
 
 pub loop-i-preserved : goal.loop-i-preserved
 loop-i-preserved c =
     let l = c.loop-i in
     let a = c.args in
-    let s = a.sheet.now in
-    let test = c.loop-i-test.true in
-    let read = c.four_bytes-z.ensures.0 in
-    let e = sym c.between.ensures ∙ c.if-not-between.false in (
-      omega (arith, test),
-      l.invariant.1,
-      omega (arith, l.invariant.2),
-      l.invariant.3
-          ∙ ap (depths_met a.foot l.low) (numbers_next (u32 s) 4 l.at a.depths.count l.i test)
-          ∙ depths_next a.foot l.low (u32 s l.at) _
-          ∙ simp (← read, e),
-    )
+    let at = a.depths.start + 4 * l.i in
+    let e = sym c.between.ensures ∙ c.if-not-between.false in
+    l.invariant
+    ∙ ap (depths_met a.foot l.low) (numbers_step (u32 a.sheet.now) 4 a.depths.start a.depths.count l.i c.loop-i-test.true)
+    ∙ depths_next a.foot l.low (u32 a.sheet.now at) _
+    ∙ simp (← c.read-z.ensures.0, e)
 
 pub returns : goal.returns
 unfolding depths_met
 returns c =
     let l = c.loop-i in
     let a = c.args in
-    sym (l.invariant.3 ∙ ap (depths_met a.foot l.low) (numbers_end (u32 a.sheet.now) 4 l.at a.depths.count l.i c.loop-i-test.false))
+    sym (l.invariant ∙ ap (depths_met a.foot l.low) (numbers_end (u32 a.sheet.now) 4 (a.depths.start + 4 * l.i) a.depths.count l.i c.loop-i-test.false))
