@@ -28,16 +28,15 @@ LINES = {
     '3 a loop that counts by hand': r'^\s*(while|loop)\b',
     '4 a conversion written by hand': r'256 \*|% 256|65536 \*|/ 65536|b\'0\' \+|fn number\(',
     '6 an array and its count or place side by side': r'heights: &\[u64; 24\]|places: &(mut )?\[usize; 7\]|heights: \[u64; 24\]',
-    '7 a match on what is asked': r'match (asked|which)',
+    '7 a match on what is asked': r'match asked',
 }
 
 def clauses(text):
-    """(function, conjunct) of each requires and ensures."""
+    """(line of the function, conjunct) of each requires and ensures."""
     name = None
-    for line in text.split('\n'):
-        f = re.match(r'\s*(?:pub )?(?:extern "C" )?fn (\w+)', line)
-        if f:
-            name = f.group(1)
+    for number, line in enumerate(text.split('\n'), 1):
+        if re.match(r'\s*(?:pub(?:\(crate\))? )?(?:extern "C" )?fn \w+', line):
+            name = number
         c = re.match(r'\s*(?:requires|ensures)[ \w]*\{ (.*) \}\s*$', line)
         if c:
             for part in re.split(r' × ', c.group(1)):
@@ -60,12 +59,12 @@ def main():
                     count[form] += 1
                     print(f'{form[0]}  {name}:{number}: {line.strip()}')
         for function, fact in clauses(text):
-            facts[fact].add(f'{name.split("/")[1]}::{function}')
+            facts[fact].add(f'{name}:{function}')
         for f in re.finditer(r'fn (\w+)(?:<[^>]*>)?\(([^)]*)\)', text):
             names = [p.split(':')[0].strip() for p in f.group(2).split(',') if ':' in p]
             for i, a in enumerate(names):
                 for b in names[i + 1:]:
-                    params[(a, b)].add(f'{name.split("/")[1]}::{f.group(1)}')
+                    params[(a, b)].add(f'{name}:{f.start()}')
     for fact, where in sorted(facts.items(), key=lambda x: -len(x[1])):
         if len(where) >= 3:
             count['5 a fact in three contracts or more'] += 1
