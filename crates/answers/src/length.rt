@@ -18,13 +18,20 @@ pub fn answers_length(sheet: &[u8]) -> Result<u32, Refusal>
     Ok(places.length_due(described.wall.count) as u32)
 }
 
-// The number of an answer that tells a length: 2^32 + the length, or the refusal's number.
+// The number of an answer that tells a length, whatever number stands for a refusal in it: 2^32 + the length, or that number.
 #[tactic(auto, unfolding(crate::specs::Length::length_number))]
-pub fn length_number(told: Result<u32, Refusal>) -> u64
-    ensures { result ≡ length_number (numbered told) }
+pub fn number(told: Result<u32, u32>) -> u64
+    ensures { result ≡ length_number told }
 {
     match told {
         Ok(length) => 4294967296 + u64::from(length),
-        Err(refusal) => u64::from(u32::from(refusal)),
+        Err(refused) => u64::from(refused),
     }
+}
+
+// The same of an answer with the refusal's name.
+pub fn length_number(told: Result<u32, Refusal>) -> u64
+    ensures { result ≡ length_number (numbered told) }
+{
+    number(told.map_err(u32::from))
 }

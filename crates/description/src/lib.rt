@@ -66,14 +66,15 @@ pub struct Described {
 pub fn describe(records: &Records) -> Described
     ensures { (result ≡ described_of records.now.sheet.now) × Sized result }
 {
+    let sheet = records.sheet;
     Described {
-        section: values::read_section(records),
-        product: values::read_product(records),
-        eccentricities: values::read_eccentricities(records),
-        bottom: values::read_bottom(records),
-        wall: values::read_wall(records),
+        section: values::read_section(sheet, records.place(0)),
+        product: values::read_product(sheet, records.place(1)),
+        eccentricities: values::read_eccentricities(sheet, records.place(2)),
+        bottom: values::read_bottom(sheet, records.place(3)),
+        wall: values::read_wall(sheet, records.place(4), records.place(5)),
         depths: values::read_depths(records),
-        headroom: values::read_headroom(records),
+        headroom: values::read_headroom(sheet, records.place(6)),
     }
 }
 

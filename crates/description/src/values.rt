@@ -1,8 +1,8 @@
-// The values that the records hold, read in place.
-ghost use Rattle.std.specs.Prelude.{◌≡◌, ◌+◌, ◌<◌, ◌≤◌, length};
+// The values that the records hold, read in place, each from the record that begins at `at`; `end` is where it ends. Any sheet can be read, a refused one too.
+ghost use Rattle.std.specs.Prelude.{◌≡◌, ◌+◌, ◌-◌, ◌<◌, ◌≤◌, length};
 ghost use Rattle.janssen.specs.Section.{side_a, side_b};
-ghost use Rattle.records.specs.Format.{u32, payload};
-ghost use Rattle.description.specs.Silo.{section_of, product_sent, factor_read, eccentricities_of, bottom_of, headroom_of};
+ghost use Rattle.records.specs.Format.{u32, record_place};
+ghost use Rattle.description.specs.Silo.{section_of, product_sent, factor_read, eccentricities_of, bottom_of, strake_count, headroom_of};
 ghost use Rattle.description.specs.program.Described.{wall_of, depths_in, product_read};
 
 use crate::{Bottom, Depths, Eccentricities, Wall};
@@ -11,30 +11,40 @@ use records::bytes::{four_bytes, two_bytes};
 use records::kind::Kind;
 use records::places::Records;
 
-#[tactic(auto, unfolding(crate::specs::Silo::section_of, records::specs::Format::kind, records::specs::Format::payload, janssen::specs::Section::side_a, janssen::specs::Section::side_b))]
-pub(crate) fn read_section(records: &Records) -> Section
-    ensures { (result ≡ section_of records.now.sheet.now) × (side_a result < 4294967296) × (side_b result < 4294967296) }
+// The bytes in the payload of the record from `at` to `end`.
+pub fn payload_bytes(at: usize, end: usize) -> usize
+    requires { at + 4 ≤ end }
+    ensures { result ≡ end - at - 4 }
 {
-    let start = records.payload(0);
-    let a = four_bytes(records.sheet, start);
-    if two_bytes(records.sheet, records.place(0) + 2) == Kind::Circle as u64 {
+    end - at - 4
+}
+
+#[tactic(auto, unfolding(crate::specs::Silo::section_of, records::specs::Format::kind, records::specs::Format::payload, janssen::specs::Section::side_a, janssen::specs::Section::side_b))]
+pub fn read_section(sheet: &[u8], at: usize) -> Section
+    requires { (at ≡ record_place sheet.now 0) × (at ≤ 1024) }
+    ensures { (result ≡ section_of sheet.now) × (side_a result < 4294967296) × (side_b result < 4294967296) }
+{
+    let start = at + 4;
+    let a = four_bytes(sheet, start);
+    if two_bytes(sheet, at + 2) == Kind::Circle as u64 {
         Section::Circle(a)
     } else {
-        Section::Rectangle(a, four_bytes(records.sheet, start + 4))
+        Section::Rectangle(a, four_bytes(sheet, start + 4))
     }
 }
 
 // γ, Ks, μ and C0 as sent.
-#[tactic(auto, unfolding(crate::specs::Silo::product_sent))]
-pub(crate) fn read_product(records: &Records) -> Product
-    ensures { result ≡ product_sent records.now.sheet.now }
+#[tactic(auto, unfolding(crate::specs::Silo::product_sent, records::specs::Format::payload))]
+pub fn read_product(sheet: &[u8], at: usize) -> Product
+    requires { (at ≡ record_place sheet.now 1) × (at ≤ 1024) }
+    ensures { result ≡ product_sent sheet.now }
 {
-    let start = records.payload(1);
+    let start = at + 4;
     Product {
-        weight: four_bytes(records.sheet, start),
-        ratio: two_bytes(records.sheet, start + 4),
-        friction: two_bytes(records.sheet, start + 6),
-        factor: two_bytes(records.sheet, start + 8),
+        weight: four_bytes(sheet, start),
+        ratio: two_bytes(sheet, start + 4),
+        friction: two_bytes(sheet, start + 6),
+        factor: two_bytes(sheet, start + 8),
     }
 }
 
@@ -56,46 +66,46 @@ pub fn product_read(sent: Product) -> Product
     }
 }
 
-// Two numbers of four bytes, the payload of record k, 0 to 6.
-fn read_pair(records: &Records, k: usize) -> (u64, u64)
-    requires { k ≤ 6 }
-    ensures first { (result.0 ≡ u32 records.now.sheet.now (payload records.now.sheet.now k)) × (result.0 < 4294967296) }
-    ensures second { (result.1 ≡ u32 records.now.sheet.now (payload records.now.sheet.now k + 4)) × (result.1 < 4294967296) }
+// Two numbers of four bytes.
+fn read_pair(sheet: &[u8], at: usize) -> (u64, u64)
+    requires { at ≤ 1024 }
+    ensures first { (result.0 ≡ u32 sheet.now (at + 4)) × (result.0 < 4294967296) }
+    ensures second { (result.1 ≡ u32 sheet.now (at + 8)) × (result.1 < 4294967296) }
 {
-    let start = records.payload(k);
-    (
-        four_bytes(records.sheet, start),
-        four_bytes(records.sheet, start + 4),
-    )
+    let start = at + 4;
+    (four_bytes(sheet, start), four_bytes(sheet, start + 4))
 }
 
-#[tactic(auto, unfolding(crate::specs::Silo::eccentricities_of))]
-pub(crate) fn read_eccentricities(records: &Records) -> Eccentricities
-    ensures { (result ≡ eccentricities_of records.now.sheet.now) × (result.inlet < 4294967296) × (result.outlet < 4294967296) }
+#[tactic(auto, unfolding(crate::specs::Silo::eccentricities_of, records::specs::Format::payload))]
+pub fn read_eccentricities(sheet: &[u8], at: usize) -> Eccentricities
+    requires { (at ≡ record_place sheet.now 2) × (at ≤ 1024) }
+    ensures { (result ≡ eccentricities_of sheet.now) × (result.inlet < 4294967296) × (result.outlet < 4294967296) }
 {
-    let (inlet, outlet) = read_pair(records, 2);
+    let (inlet, outlet) = read_pair(sheet, at);
     Eccentricities { inlet, outlet }
 }
 
-#[tactic(auto, unfolding(crate::specs::Silo::bottom_of))]
-pub(crate) fn read_bottom(records: &Records) -> Bottom
-    ensures { (result ≡ bottom_of records.now.sheet.now) × (result.height < 4294967296) × (result.run < 4294967296) }
+#[tactic(auto, unfolding(crate::specs::Silo::bottom_of, records::specs::Format::payload))]
+pub fn read_bottom(sheet: &[u8], at: usize) -> Bottom
+    requires { (at ≡ record_place sheet.now 3) × (at ≤ 1024) }
+    ensures { (result ≡ bottom_of sheet.now) × (result.height < 4294967296) × (result.run < 4294967296) }
 {
-    let (height, run) = read_pair(records, 3);
+    let (height, run) = read_pair(sheet, at);
     Bottom { height, run }
 }
 
 // The strake heights, in 24 places, and their sum.
-pub(crate) fn read_wall(records: &Records) -> Wall
-    ensures wall { result ≡ wall_of records.now.sheet.now }
+pub fn read_wall(sheet: &[u8], at: usize, end: usize) -> Wall
+    requires { (at ≡ record_place sheet.now 4) × (end ≡ record_place sheet.now 5) × (end ≤ 1024) × (strake_count sheet.now ≤ 24) }
+    ensures wall { result ≡ wall_of sheet.now }
     ensures small { (length result.heights ≡ 24) × (result.count ≤ 24) × (result.foot < 4294967296) }
 {
-    let start = records.payload(4);
-    let count = records.payload_length(4) / 2;
+    let start = at + 4;
+    let count = payload_bytes(at, end) / 2;
     let mut heights = [0u64; 24];
     let mut foot: u64 = 0;
     for i in 0..count {
-        let height = two_bytes(records.sheet, start + 2 * i);
+        let height = two_bytes(sheet, start + 2 * i);
         heights[i] = height;
         foot += height;
     }
@@ -116,10 +126,11 @@ pub(crate) fn read_depths(records: &Records) -> Depths
     }
 }
 
-// The headroom: a sheet of six records ends where the seventh would begin, and what lies past its end reads as 0.
-#[tactic(auto, using(crate::proofs::Headroom::headroom_read))]
-pub(crate) fn read_headroom(records: &Records) -> u64
-    ensures { (result ≡ headroom_of records.now.sheet.now) × (result < 4294967296) }
+// The headroom: a sheet of six records ends at `at`, and what lies past its end reads as 0.
+#[tactic(auto, using(crate::proofs::Headroom::headroom_read), unfolding(records::specs::Format::payload))]
+pub fn read_headroom(sheet: &[u8], at: usize) -> u64
+    requires { (at ≡ record_place sheet.now 6) × (at ≤ 1024) }
+    ensures { (result ≡ headroom_of sheet.now) × (result < 4294967296) }
 {
-    four_bytes(records.sheet, records.payload(6))
+    four_bytes(sheet, at + 4)
 }

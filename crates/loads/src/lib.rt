@@ -7,6 +7,7 @@ ghost use Rattle.loads.specs.Load.Load.{p_vf, p_he, p_p};
 ghost use Rattle.loads.specs.program.Basis.{Reached, Fits, depth_numbers};
 ghost use Rattle.loads.specs.Load.{C_h, C_w};
 ghost use Rattle.discharge.specs.program.Magnifier.{held};
+ghost use Rattle.hopper.specs.Hopper.{P_n, P_t};
 ghost use Rattle.janssen.specs.Section.{d_c};
 ghost use Rattle.janssen.specs.Filling.{grain_of};
 ghost use Rattle.janssen.specs.program.Pressure.{computed};
@@ -53,26 +54,44 @@ impl Silo {
         let friction = self.product.friction;
         let base = slope.base(self.section, self.product);
         let filling = hopper::hopper_filling(friction, base);
-        let normal = |k: u64| slope.normal(k, filling, vertical);
-        let along = |normal: Pascals| hopper::hopper_friction(friction, normal);
-        let outlet = normal(0);
-        let first = normal(1);
-        let second = normal(2);
-        let third = normal(3);
-        let top = normal(4);
+        let at = |k: u64| quarter(slope, k, friction, filling, vertical);
+        let outlet = at(0);
+        let first = at(1);
+        let second = at(2);
+        let third = at(3);
+        let top = at(4);
         [
-            outlet.0,
-            first.0,
-            second.0,
-            third.0,
-            top.0,
-            along(outlet).0,
-            along(first).0,
-            along(second).0,
-            along(third).0,
-            along(top).0,
+            outlet.normal.0,
+            first.normal.0,
+            second.normal.0,
+            third.normal.0,
+            top.normal.0,
+            outlet.friction.0,
+            first.friction.0,
+            second.friction.0,
+            third.friction.0,
+            top.friction.0,
         ]
     }
+}
+
+// The hopper's loads at one place of its slope.
+#[derive(Clone, Copy)]
+pub struct HopperLoads {
+    // P_n
+    pub normal: Pascals,
+    // P_t
+    pub friction: Pascals,
+}
+
+// P_n and P_t at k quarters of the slope; friction is the mean μ in hundredths, filling is n3, Pa.
+fn quarter(slope: Slope, k: u64, friction: u64, filling: u64, vertical: Pascals) -> HopperLoads
+    requires { (k ≤ 4) × (friction ≤ 100) × (filling ≤ 10350000) × (vertical.0 < 2 ^ 25) }
+    ensures { (result.normal.0 ≡ P_n slope.height slope.run k filling vertical.0) × (result.friction.0 ≡ P_t friction (P_n slope.height slope.run k filling vertical.0)) }
+{
+    let normal = slope.normal(k, filling, vertical);
+    let friction = hopper::hopper_friction(friction, normal);
+    HopperLoads { normal, friction }
 }
 
 // What is worked out once for a silo, inside its ranges.

@@ -9,7 +9,7 @@ use Rattle.description.proofs.values.read_wall.Given as goal
 
 abbrev pub invariant-loop-i : goal.invariant-loop-i
 invariant-loop-i l =
-    let s = l.records.sheet.now in
+    let s = l.sheet in
     let left = numbers (u16 s) 2 (l.start + 2 * l.i) (l.count - l.i) in record {
       sized : length l.heights ≡ 24;
       small : l.foot ≤ 65535 * l.i;
